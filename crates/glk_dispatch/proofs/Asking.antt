@@ -1,5 +1,5 @@
 -- What a call asks, it goes on with: proved once over the rows that take turns.
-use Rattle.std.proofs.Common.{◌≡◌, ◌⊎◌, ◌==◌, ℕ, Bool, true, false, if◌then◌else◌, List, [], ◌∷◌}
+use Rattle.std.proofs.Common.{◌≡◌, ◌⊎◌, ◌==◌, ◌&&◌, ℕ, Bool, true, false, if◌then◌else◌, List, [], ◌∷◌}
 use Rattle.std.proofs.Common.{Option, Some, None, is_none, Result, Ok, Err, refl, subst, inl, inr}
 use Rattle.std.specs.Prelude.{IfOk}
 use Rattle.gx_words.specs.Results.{◌>>=◌}
@@ -14,7 +14,7 @@ use Rattle.glk_world.specs.Shown.{show_prompt}
 use Rattle.glk_world.specs.World.{Scene, Said, FlatWorld, MakesCall, silent, after, on_world, Outcome, has_reference}
 use Rattle.glk_world.specs.World.{waits}
 use Rattle.glk_world.specs.World.{arg}
-use Rattle.glk_world.specs.Calls.{without_file}
+use Rattle.glk_world.specs.Calls.{is_identifier, without_file}
 use Rattle.glk_replies.specs.Numbers as selectors
 use Rattle.glk_replies.specs.TextNumbers as texts
 use Rattle.glk_replies.specs.Parts.{replies, give, can_give_pair}
@@ -38,6 +38,7 @@ use Rattle.glk_object_calls.specs.Answers.{tells, as_turn}
 use Rattle.glk_dispatch.specs.Calls.{looked_at, is_on_none, nothing, done, glk_call}
 use Rattle.glk_dispatch.specs.Ready.{IsReady}
 use Rattle.glk_dispatch.specs.Turns.{HasRequest, Awaits, Looked}
+use Rattle.glk_dispatch.proofs.Memory.{both}
 use Rattle.glk_dispatch.proofs.Ready.{call_by, ready_looks}
 use Rattle.glk_dispatch.proofs.Waiting.{taken_there, taken_windowless}
 
@@ -105,9 +106,11 @@ module _ (f : FlatState) (room : ℕ) where
       → has_reference w (arg args 0) ≡ true → stream_open_file selector w args ≡ Ok r → IsAsked r
   unfolding stream_open_file
   open_asks w selector args r opens there is =
-      by_mode (arg args 1 == write_mode) (mode_loads (arg args 1)) (open_with w selector args [])
+      let loads : Bool = mode_loads (arg args 1) in
+      let left : Bool = is_identifier w.next_id in
+      by_mode (arg args 1 == write_mode) (loads && left) (open_with w selector args [])
       (silent (waits w selector args), turn.Load (file_name w (arg args 0))) w (replies 0) r
-      (λ mode. load_asked w selector args (file_name w (arg args 0)) opens there mode) is
+      (λ may. load_asked w selector args (file_name w (arg args 0)) opens there (both loads left may).0) is
 
   store_asked : (w : Scene) (args : List ℕ) (file : List ℕ × List ℕ) → can_give_pair f room (arg args 1) ≡ Ok tt
       → streams.has w.streams (arg args 0) ≡ true

@@ -298,11 +298,6 @@ some_chars got stops read is (inr some) =
     let has : not (length got.0 == 0) ≡ true = rw is at some in
     grind (arith, nat_tests, has)
 
--- for writing alone an identifier is left
-opening_may : (mode : ℕ) (left : Bool) → mode ≡ write_mode
-    → ((mode == write_mode && left) || reference.mode_loads mode) ≡ true → left ≡ true
-opening_may mode left is some = opening_left left (rw is at some)
-
 -- what an outcome is
 abbrev pub Comes : Outcome Turn → Said × Turn → Type 0
 Comes outcome r = outcome ≡ Ok r
@@ -317,12 +312,11 @@ asked : (w : Scene) (r x : Said × Turn) → turn_takes x.1 ≡ true → Comes (
 asked w r x takes is =
     subst (λ (y : Said × Turn). takes_some w y ≡ true) (let e : x ≡ r = (cc) in e) (takes_by_turn w x takes)
 
-loading_takes : (w : Scene) (selector : ℕ) (args : List ℕ) (r : Said × Turn) (loads : Bool)
-    → (arg args 1 == write_mode) ≡ false → ((arg args 1 == write_mode && is_identifier w.next_id) || loads) ≡ true
+loading_takes : (w : Scene) (selector : ℕ) (args : List ℕ) (r : Said × Turn) (loads : Bool) → loads ≡ true
     → loaded_by loads w selector args ≡ Ok r → takes_some w r ≡ true
-loading_takes w selector args r true other some is =
+loading_takes w selector args r true some is =
     asked w r (silent (waits w selector args), turn.Load (reference.file_name w (arg args 0))) refl is
-loading_takes w selector args r false other some is = absurd (let e = rw other at some in cc)
+loading_takes w selector args r false some is = absurd (cc)
 
 there_some : (xs : List ℕ) → xs ≢ [] → has_some xs ≡ true
 there_some [] some = absurd (some refl)
@@ -530,15 +524,16 @@ pub file_takes : (w : Scene) (selector : ℕ) (args : List ℕ) (r : Said × Tur
     → reference.stream_open_file selector w args ≡ Ok r → takes_some w r ≡ true
 unfolding reference.stream_open_file reference.open_with
 file_takes w selector args r some is =
+    let loads : Bool = reference.mode_loads (arg args 1) in
+    let left : Bool = is_identifier w.next_id in
     elim (there_or_not (arg args 1 == write_mode)) [
       | inl writes ↦
-          let mode : arg args 1 ≡ write_mode = grind (arith, nat_tests, writes) in
-          let may : is_identifier w.next_id ≡ true = opening_may (arg args 1) (is_identifier w.next_id) mode some in
+          let may : left ≡ true = (both (arg args 1 == write_mode || loads) left some).1 in
           let form : FileForm = reference.form_for selector (reference_at w (arg args 0)).usage in
           let kind : StreamKind = kinds.File (reference.file_name w (arg args 0)) [] form in
           leaves w _ _ (stream_more w kind (arg args 1) (arg args 2) may) r
           (rw writes at is)
-      | inr other ↦ loading_takes w selector args r (reference.mode_loads (arg args 1)) other some (rw other at is)
+      | inr other ↦ loading_takes w selector args r (loads && left) (rw other at some) (rw other at is)
     ]
 
 close_takes : (w : Scene) (f : FlatState) (room : ℕ) (args : List ℕ) (r : Said × Turn) (file : Option (List ℕ × List ℕ))

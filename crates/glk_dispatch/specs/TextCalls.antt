@@ -2,14 +2,13 @@
 -- Read", "Events"), and those of Unicode, in rising order of selector.
 use Rattle.std.specs.Prelude.{◌==◌, ◌&&◌, not, nat_lt, ℕ, if◌then◌else◌, Bool, true, false, List, [], ◌∷◌}
 use Rattle.gx_state.specs.Flat.{FlatState}
-use Rattle.glk_streams.specs.Streams as streams
 use Rattle.glk_world.specs.World.{Scene, arg}
 use Rattle.glk_replies.specs.Numbers as selectors
 use Rattle.glk_replies.specs.TextNumbers as texts
 use Rattle.glk_replies.specs.Strings.{string_length}
 use Rattle.glk_text_calls.specs.declared.characters.Case.{Case}
 use Rattle.glk_text_calls.specs.declared.characters.Case.TheVariants as case
-use Rattle.glk_text_calls.specs.Putting.{put_grows_one}
+use Rattle.glk_text_calls.specs.Putting.{put_grows_one, put_grows_some}
 use Rattle.glk_text_calls.specs.Output.{char_given, put_char, put_string, put_buffer, has_length}
 use Rattle.glk_text_calls.specs.Input.{get_char, get_line, get_buffer, get_buffer_grows}
 use Rattle.glk_text_calls.specs.Characters.{char_to_case, buffer_to_case, buffer_of}
@@ -46,13 +45,13 @@ puts_char number arguments stream width at =
 -- a string of a width
 abbrev puts_string : ℕ → ℕ → (Scene → List ℕ → ℕ) → ℕ → ℕ → CallRow
 puts_string number arguments stream width at =
-    wants (λ w f args. streams.has w.streams (stream w args) && has_length (string_length f width (arg args at)))
+    wants (λ w f args. put_grows_some w (stream w args) (has_length (string_length f width (arg args at))))
     (row_with number arguments (looking (λ w f args. put_string w f (stream w args) width (arg args at))))
 
 -- a buffer of a width, and behind it its count
 abbrev puts_buffer : ℕ → ℕ → (Scene → List ℕ → ℕ) → ℕ → ℕ → ℕ → CallRow
 puts_buffer number arguments stream width at count =
-    wants (λ w f args. streams.has w.streams (stream w args) && not (arg args count == 0))
+    wants (λ w f args. put_grows_some w (stream w args) (not (arg args count == 0)))
     (row_with number arguments
     (looking (λ w f args. put_buffer w f (stream w args) width (arg args at) (arg args count))))
 

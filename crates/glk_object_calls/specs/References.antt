@@ -96,16 +96,18 @@ open_with w selector args content =
 abbrev pub mode_loads : ℕ → Bool
 mode_loads mode = mode == read_mode || mode == read_write_mode || mode == write_append_mode
 
--- stream_open_file: for writing alone the file begins empty, else it is loaded; another mode is refused
+-- stream_open_file: for writing alone the file begins empty, else it is loaded; another mode is refused, and so is each
+-- where no identifier is left
 unfoldable pub stream_open_file : ℕ → Scene → List ℕ → Outcome Turn
 stream_open_file selector w args =
     if arg args 1 == write_mode then as_turn (open_with w selector args []) else
-    if mode_loads (arg args 1) then Ok (silent (waits w selector args), turn.Load (file_name w (arg args 0))) else
+    if mode_loads (arg args 1) && is_identifier w.next_id
+    then Ok (silent (waits w selector args), turn.Load (file_name w (arg args 0))) else
     Ok (silent w, turn.Answer (replies 0))
 
--- where that may want memory: a stream is made, or the name of the file that is loaded
+-- where that may want memory: a stream is made, or the name of the file that is loaded for one
 abbrev pub opening_grows : Scene → List ℕ → Bool
-opening_grows w args = (arg args 1 == write_mode && is_identifier w.next_id) || mode_loads (arg args 1)
+opening_grows w args = (arg args 1 == write_mode || mode_loads (arg args 1)) && is_identifier w.next_id
 
 -- the file was loaded: one that is missing begins empty, unless it was to be read alone
 abbrev pub open_goes_on : Scene → ℕ → List ℕ → Load → Outcome Reply

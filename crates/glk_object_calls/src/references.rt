@@ -208,12 +208,9 @@ fn file_name(world: &World, id: u32) -> Result<Name, AllocError>
     requires { IsTrue (has_reference world.now.scene id) }
     ensures { IfOk result (λ name. name ≡ file_name world.now.scene id) }
 {
-    match world.file_ref(id) {
+    match world.reference(id) {
         None => Ok(Name::new(world.alloc())),
-        Some((base, usage, _)) => {
-            let base = Name::from_str(world.alloc(), base)?;
-            full_name(world.alloc(), &base, usage)
-        }
+        Some(reference) => full_name(world.alloc(), &reference.base, reference.usage),
     }
 }
 
@@ -228,7 +225,7 @@ fn wait_for_file(world: &mut World, selector: u32, args: &[u32]) -> Result<Name,
     Ok(name)
 }
 
-/// fileref_delete_file: asks that the file be removed. Its name is made, so that memory may always be wanted.
+/// fileref_delete_file: asks that the file be removed. The question owns the name, so that memory may always be wanted.
 #[tactic(auto, unfolding(crate::specs::References::fileref_delete_file))]
 pub fn fileref_delete_file(world: &mut World, args: &[u32]) -> Result<Turn, Fault>
     requires { IsTrue (has_reference world.old.scene (arg args.now 0)) }
@@ -287,7 +284,8 @@ fn open_with(world: &mut World, selector: u32, args: &[u32], content: Bytes) -> 
     Ok(reply(world.alloc(), id))
 }
 
-/// stream_open_file, stream_open_file_uni: a file that isn't for writing alone is loaded first.
+/// stream_open_file, stream_open_file_uni: a file that isn't for writing alone is loaded first. Where no identifier is
+/// left nothing is asked, and no name is made.
 #[tactic(auto, unfolding(crate::specs::References::stream_open_file))]
 pub fn stream_open_file(world: &mut World, selector: u32, args: &[u32]) -> Result<Turn, Fault>
     requires { IsTrue (has_reference world.old.scene (arg args.now 0)) }
@@ -295,6 +293,9 @@ pub fn stream_open_file(world: &mut World, selector: u32, args: &[u32]) -> Resul
         (stream_open_file selector world.old.scene args.now) }
     ensures fits { (f : FlatState) (room : ℕ) → IfOk result (IsTurnFor f room) }
 {
+    if world.next_id() > LAST_IDENTIFIER {
+        return Ok(Turn::Answer(reply(world.alloc(), 0)));
+    }
     match arg(args, 1) {
         WRITE => {
             let empty = Bytes::new(world.alloc());

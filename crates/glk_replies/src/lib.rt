@@ -19,7 +19,7 @@ use gx_state::Reply;
 use gx_words::{Bytes, Name, Numbers};
 pub use parts::{
     Character, ON_STACK, add_given, can_give, can_lay, can_read, filled, fitting, lay, numbers_at,
-    push_char, reply,
+    reply,
 };
 pub use strings::string_length;
 

@@ -129,8 +129,8 @@ pub fn numbers_at<A: Allocator>(
     Ok(numbers)
 }
 
-/// Adds the bytes of a character, one at least; after a refusal the bytes are as they were.
-pub fn push_char(out: &mut Bytes, width: u32, c: u32) -> Result<(), AllocError>
+/// Adds the bytes of a character, one at least, for which room was asked.
+fn push_char(out: &mut Bytes, width: u32, c: u32) -> Result<(), AllocError>
     ensures ok { OnOk result (out.new ≡ out.old ++ (if width == 1 then latin_of c ∷ [] else bytes_of_word c)) }
     ensures err { OnErr result (out.new ≡ out.old) }
 {
@@ -141,12 +141,22 @@ pub fn push_char(out: &mut Bytes, width: u32, c: u32) -> Result<(), AllocError>
     }
 }
 
+/// Room for the bytes of so many characters, asked for at once.
+fn chars_room(alloc: Global, width: u32, count: usize) -> Result<Bytes, AllocError>
+    ensures value { IfOk result (λ bytes. bytes ≡ []) }
+    ensures memory { OnErr result (0 < count) }
+{
+    let each = if width == 1 { 1 } else { 4 };
+    Bytes::with_capacity(alloc, count.saturating_mul(each))
+}
+
 /// The bytes of characters.
 #[tactic(auto, using(crate::proofs::Laying::byte_turns))]
 fn chars_bytes(alloc: Global, width: u32, chars: &[u32]) -> Result<Bytes, AllocError>
-    ensures { IfOk result (λ bytes. bytes ≡ chars_bytes width chars.now) }
+    ensures value { IfOk result (λ bytes. bytes ≡ chars_bytes width chars.now) }
+    ensures memory { OnErr result (0 < length chars.now) }
 {
-    let mut bytes = Bytes::new(alloc);
+    let mut bytes = chars_room(alloc, width, chars.len())?;
     for c in chars {
         push_char(&mut bytes, width, *c)?;
     }
@@ -156,12 +166,13 @@ fn chars_bytes(alloc: Global, width: u32, chars: &[u32]) -> Result<Bytes, AllocE
 /// The bytes of characters that are bytes.
 #[tactic(auto, using(crate::proofs::Laying::byte_turns))]
 fn in_width(alloc: Global, width: u32, bytes: &[u8]) -> Result<Bytes, AllocError>
-    ensures { IfOk result (λ all. all ≡ chars_bytes width bytes.now) }
+    ensures value { IfOk result (λ all. all ≡ chars_bytes width bytes.now) }
+    ensures memory { OnErr result (0 < length bytes.now) }
 {
     if width == 1 {
         return Bytes::from_slice(alloc, bytes);
     }
-    let mut all = Bytes::new(alloc);
+    let mut all = chars_room(alloc, width, bytes.len())?;
     for byte in bytes {
         push_char(&mut all, width, u32::from(*byte))?;
     }
@@ -170,7 +181,7 @@ fn in_width(alloc: Global, width: u32, bytes: &[u8]) -> Result<Bytes, AllocError
 
 /// A character that is written to memory: a number, or a byte.
 pub trait Character {
-    ghost use Rattle.std.specs.Prelude.{ℕ, List, ◌≡◌, ◌≤◌, length, take, IfOk};
+    ghost use Rattle.std.specs.Prelude.{ℕ, List, ◌≡◌, ◌<◌, ◌≤◌, length, take, IfOk, OnErr};
     ghost use Rattle.glk_replies.specs.Parts.{chars_bytes};
 
     /// Characters as numbers.
@@ -184,7 +195,8 @@ pub trait Character {
         count: usize,
     ) -> Result<Bytes, AllocError>
         requires { count ≤ length (chars_of chars.now) }
-        ensures { IfOk result (λ bytes. bytes ≡ chars_bytes width (take count (chars_of chars.now))) };
+        ensures value { IfOk result (λ bytes. bytes ≡ chars_bytes width (take count (chars_of chars.now))) }
+        ensures memory { OnErr result (0 < count) };
 }
 
 impl Character for u32 {

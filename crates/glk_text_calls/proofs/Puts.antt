@@ -1,11 +1,12 @@
 -- Characters that are put, and their places.
 use Rattle.std.proofs.Common.{◌≡◌, ◌≢◌, ◌<◌, ◌≤◌, ◌==◌, ◌&&◌, ◌||◌, ◌⊎◌, not, ℕ, Bool, true, false, if◌then◌else◌}
-use Rattle.std.proofs.Common.{List, [], ◌∷◌, length, refl, sym, ap, subst, ◌∙◌, inl, inr, arith, Result, Ok, Err}
+use Rattle.std.proofs.Common.{◌+◌, ◌*◌, ◌++◌, append_assoc, List, [], ◌∷◌, length, refl, sym, ap, subst, ◌∙◌, inl, inr, arith, Result, Ok, Err}
 use Rattle.std.proofs.Common.{IsOk, IfOk, IsTrue}
 use Rattle.std.proofs.lemmas.Bool.Decides.{nat_tests}
 use Rattle.std.proofs.lemmas.List.{append-nil}
 use Rattle.gx_words.specs.declared.faults.Fault.{Fault}
 use Rattle.gx_words.specs.declared.faults.Fault.TheVariants.{NoMemory}
+use Rattle.gx_words.specs.Numbers.{number}
 use Rattle.gx_state.specs.Flat.{FlatState}
 use Rattle.gx_state.specs.declared.effects.Reply.{Reply}
 use Rattle.gx_state.specs.Replies.{IsReply}
@@ -16,12 +17,13 @@ use Rattle.glk_streams.specs.declared.kinds.StreamKind.TheVariants as kinds
 use Rattle.glk_streams.specs.Stream as one
 use Rattle.glk_streams.specs.Streams as streams
 use Rattle.glk_windows.specs.Constants.{text_buffer}
-use Rattle.glk_world.specs.World.{Scene, FlatWorld, after, on_world, MakesCall}
+use Rattle.glk_world.specs.World.{Scene, FlatWorld, Said, after, then_said, on_world, MakesCall}
 use Rattle.glk_world.specs.Putting.{window_of_stream, entry_of, is_plain_text, put_of, put_chars, put_grows}
-use Rattle.glk_world.specs.Putting.{places_of, chain_end}
+use Rattle.glk_world.specs.Putting.{places_of, chain_end, takes_chars}
 use Rattle.glk_replies.specs.Parts.{IsCharWidth, replies, can_lay, numbers_in, reply_filling, MayWant}
-use Rattle.glk_text_calls.specs.Putting.{put_all, put_grows_one}
+use Rattle.glk_text_calls.specs.Putting.{put_all, put_grows_one, put_grows_some}
 use Rattle.glk_replies.proofs.Counting.{count_numbers, some_numbers}
+use Rattle.glk_replies.proofs.Laying.{numbers_more}
 use Rattle.glk_replies.proofs.Ram.{laid_in_ram}
 
 or_last : (b : Bool) → (b || true) ≡ true
@@ -82,9 +84,10 @@ put_ends_fit f w stream count value cs p r is few lays filled room = wanted_fits
     (subst (λ (q : Places). IsCharWidth q.width) (sym is) (places_width w stream count)) few lays filled room
 
 -- some of them are put
-pub some_put : (w : Scene) (stream count : ℕ) → streams.has w.streams stream ≡ true → 0 < count
-    → (streams.has w.streams stream && not (count == 0)) ≡ true
-some_put w stream count there some = rw there (grind (arith, nat_tests))
+pub some_put : (w : Scene) (stream count : ℕ) → streams.has w.streams stream ≡ true → takes_chars w stream ≡ true
+    → 0 < count → put_grows_some w stream (not (count == 0)) ≡ true
+some_put w stream count there takes some =
+    let counted : (count == 0) ≡ false = grind (arith, nat_tests, some) in rw (there, takes, counted) refl
 
 pub some_counted : (n : ℕ) (cs : List ℕ) → 0 < n → n ≤ length cs → cs ≢ []
 some_counted n [] some few same = absurd (omega arith)
@@ -167,24 +170,62 @@ module _ (f : FlatState) (width at count : ℕ) (memory cs : List ℕ) (same : m
   pub few_read : (n : ℕ) → n ≤ count → n ≤ length cs
   few_read n few = omega (arith, count_read_there)
 
-  pub some_read : (w : Scene) (stream : ℕ) → streams.has w.streams stream ≡ true → cs ≢ []
-      → (streams.has w.streams stream && not (count == 0)) ≡ true
-  some_read w stream there some = some_put w stream count there
+  pub some_read : (w : Scene) (stream : ℕ) → streams.has w.streams stream ≡ true → takes_chars w stream ≡ true
+      → cs ≢ [] → put_grows_some w stream (not (count == 0)) ≡ true
+  some_read w stream there takes some = some_put w stream count there takes
       (omega (arith, some_numbers width at count memory (λ none. some (read ∙ none))))
 
   pub numbers_end : (w now : FlatWorld) (stream : ℕ) (p : Places) (r : Result Reply Fault) → p.count ≤ count
-      → p ≡ places_of w.scene stream count → streams.has w.scene.streams stream ≡ true → can_lay f p ≡ Ok tt
-      → now ≡ after w (put_chars w.scene stream cs)
+      → p ≡ places_of w.scene stream count → streams.has w.scene.streams stream ≡ true
+      → takes_chars w.scene stream ≡ true → can_lay f p ≡ Ok tt → now ≡ after w (put_chars w.scene stream cs)
       → MayWant (0 < p.count) (λ (reply : Reply). reply) r (Ok (reply_filling 0 p cs))
-      → MakesCall (IsTrue (streams.has w.scene.streams stream && not (count == 0))) r w now
+      → MakesCall (IsTrue (put_grows_some w.scene stream (not (count == 0)))) r w now
       (put_all w.scene f stream (numbers_in width f.memory at count))
-  numbers_end w now stream p r few is there lays made filled = subst
-      (λ (xs : List ℕ). MakesCall (IsTrue (streams.has w.scene.streams stream && not (count == 0))) r w now
+  numbers_end w now stream p r few is there takes lays made filled = subst
+      (λ (xs : List ℕ). MakesCall (IsTrue (put_grows_some w.scene stream (not (count == 0)))) r w now
       (put_all w.scene f stream xs)) read_there
-      (put_ends w now f stream count cs p r (λ some. some_put w.scene stream count there (omega arith)) is
+      (put_ends w now f stream count cs p r (λ some. some_put w.scene stream count there takes (omega arith)) is
       count_read_there there lays made filled)
 
--- one character
+-- ---- characters for a stream that takes none
+
+puts_last : (w : Scene) (stream : ℕ) (cs : List ℕ) (c : ℕ)
+    → put_chars w stream (cs ++ c ∷ []) ≡ then_said (put_chars w stream cs) (λ more. put_of more stream c)
+unfolding put_chars
+puts_last w stream [] c = ap (λ (text : List ℕ). let both : Said = ((put_of w stream c).0, text) in both)
+    (append-nil (put_of w stream c).1)
+puts_last w stream (d ∷ cs) c =
+    let first = put_of w stream d in
+    let rest = put_chars first.0 stream cs in
+    ap (λ (said : Said). let both : Said = (said.0, first.1 ++ said.1) in both) (puts_last first.0 stream cs c)
+    ∙ ap (λ (text : List ℕ). let both : Said = ((put_of rest.0 stream c).0, text) in both)
+    (sym (append_assoc first.1 rest.1 (put_of rest.0 stream c).1))
+
+pub unseen_first : (w : FlatWorld) (stream width at : ℕ) (memory : List ℕ)
+    → w ≡ after w (put_chars w.scene stream (numbers_in width memory at 0))
+unfolding put_chars numbers_in
+unseen_first w stream width at memory = rw (append-nil w.text) refl
+
+pub unseen_more : (w v : FlatWorld) (stream width at i : ℕ) (memory : List ℕ)
+    → v ≡ after w (put_chars w.scene stream (numbers_in width memory at i))
+    → after v (put_of v.scene stream (number width memory (at + width * i)))
+    ≡ after w (put_chars w.scene stream (numbers_in width memory at (i + 1)))
+unseen_more w v stream width at i memory is =
+    let cs = numbers_in width memory at i in
+    let c = number width memory (at + width * i) in
+    let all : put_chars w.scene stream (numbers_in width memory at (i + 1))
+    ≡ then_said (put_chars w.scene stream cs) (λ more. put_of more stream c) =
+    ap (λ (xs : List ℕ). put_chars w.scene stream xs) (sym (numbers_more width memory at i))
+    ∙ puts_last w.scene stream cs c in
+    rw (is, all, append_assoc) refl
+
+pub ruleset unseen_turns = (unseen_first, unseen_more)
+
+pub nothing_filled : (p : Places) (cs : List ℕ) → p.count ≡ 0 → replies 0 ≡ reply_filling 0 p cs
+nothing_filled p cs none = rw none refl
+
+-- ---- one character
+
 module _ (w : FlatWorld) (f : FlatState) (stream c : ℕ) (p : Places) (is : p ≡ places_of w.scene stream 1)
     (there : streams.has w.scene.streams stream ≡ true) where
   grows_one : IsTrue (put_grows w.scene stream c) ⊎ (0 < p.count) → put_grows_one w.scene stream c ≡ true

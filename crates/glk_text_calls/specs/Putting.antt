@@ -5,7 +5,7 @@ use Rattle.gx_state.specs.Flat.{FlatState}
 use Rattle.gx_state.specs.declared.effects.Reply.{Reply}
 use Rattle.glk_streams.specs.Streams as streams
 use Rattle.glk_world.specs.World.{Scene, Outcome, answered}
-use Rattle.glk_world.specs.Putting.{put_chars, put_grows, places_of}
+use Rattle.glk_world.specs.Putting.{put_chars, put_grows, places_of, takes_chars}
 use Rattle.glk_replies.specs.Parts.{replies, can_lay, reply_filling}
 
 -- Characters are put to a stream, and written where it ends in memory, if they may be; a stream that isn't there takes
@@ -19,3 +19,7 @@ put_all w f stream cs = if not (streams.has w.streams stream) then answered w (r
 abbrev pub put_grows_one : Scene → ℕ → ℕ → Bool
 put_grows_one w stream c =
     streams.has w.streams stream && (put_grows w stream c || not ((places_of w stream 1).count == 0))
+
+-- putting a string or a buffer wants memory where there is a character and the stream takes it
+abbrev pub put_grows_some : Scene → ℕ → Bool → Bool
+put_grows_some w stream some = streams.has w.streams stream && (takes_chars w stream && some)

@@ -2,21 +2,23 @@
 //! at first.
 //!
 //! A character takes no memory but for its place in the text, in a file or in the reply. A string and a buffer are
-//! gathered where a stream takes them, and only there.
+//! gathered where their stream takes characters, and only there: one that is open for writing, of a window only where
+//! that is a text buffer or a grid or has an echo stream. Of any other a character is at most counted.
 ghost use Rattle.std.specs.Prelude.{ℕ, ◌≡◌, ◌+◌, ◌*◌, ◌≤◌, ◌<◌, ◌^◌, ◌==◌, ◌&&◌, ◌∷◌, [], not, length, Ok, IfOk, IsOk};
-ghost use Rattle.std.specs.Prelude.{OnErr, IsTrue};
+ghost use Rattle.std.specs.Prelude.{OnErr, OnOk, IsTrue};
 ghost use Rattle.gx_state.specs.Flat.{FlatState};
 ghost use Rattle.gx_state.specs.Replies.{IsReply};
 ghost use Rattle.glk_streams.specs.Streams as streams;
-ghost use Rattle.glk_world.specs.Putting.{is_plain_text};
-ghost use Rattle.glk_world.specs.World.{on_world, MakesCall};
+ghost use Rattle.glk_world.specs.Putting.{is_plain_text, put_chars, takes_chars};
+ghost use Rattle.glk_world.specs.World.{after, on_world, MakesCall};
 ghost use Rattle.glk_replies.specs.Parts.{IsCharWidth, replies, numbers_in};
 ghost use Rattle.glk_replies.specs.Strings.{string_length};
-ghost use Rattle.glk_text_calls.specs.Putting.{put_all, put_grows_one};
+ghost use Rattle.glk_text_calls.specs.Putting.{put_all, put_grows_one, put_grows_some};
 ghost use Rattle.glk_text_calls.specs.Output.{putting, char_given, put_char, put_string, put_buffer, has_length};
 
 use glk_replies::{can_lay, can_read, filled, numbers_at, reply, string_length};
 use glk_world::World;
+use gx_pages::Pages;
 use gx_state::{Reply, State};
 use gx_words::Fault;
 use std::alloc::{AllocError, Allocator};
@@ -91,8 +93,8 @@ pub fn put_string<A: Allocator + Clone>(
     at: u32,
 ) -> Result<Reply, Fault>
     requires { IsCharWidth width }
-    ensures value { MakesCall (IsTrue (streams.has world.old.scene.streams stream && has_length
-        (string_length state.now.flat width at))) result world.old world.new
+    ensures value { MakesCall (IsTrue (put_grows_some world.old.scene stream (has_length (string_length state.now.flat
+        width at)))) result world.old world.new
         (put_string world.old.scene state.now.flat stream width at) }
     ensures fits { (room : ℕ) → IfOk result (IsReply state.now.flat room) }
 {
@@ -111,12 +113,36 @@ pub fn put_buffer<A: Allocator + Clone>(
     count: u32,
 ) -> Result<Reply, Fault>
     requires { IsCharWidth width }
-    ensures value { MakesCall (IsTrue (streams.has world.old.scene.streams stream && not (count == 0))) result world.old
+    ensures value { MakesCall (IsTrue (put_grows_some world.old.scene stream (not (count == 0)))) result world.old
         world.new (put_buffer world.old.scene state.now.flat stream width at count) }
     ensures fits { (room : ℕ) → IfOk result (IsReply state.now.flat room) }
 {
     can_read(state, u64::from(at), u64::from(width) * u64::from(count))?;
     put_numbers(world, state, stream, width, at, count)
+}
+
+/// Puts numbers that are there, to a stream that takes no characters, one after another.
+#[tactic(auto, using(crate::proofs::Puts::unseen_turns))]
+fn put_unseen<A: Allocator>(
+    world: &mut World,
+    memory: &Pages<A>,
+    stream: u32,
+    width: u32,
+    at: u32,
+    count: u32,
+) -> Result<(), AllocError>
+    requires width { IsCharWidth width }
+    requires there { 0 < count → at + width * count ≤ length memory.now }
+    requires low { 0 < count → at + width * count < 2 ^ 32 }
+    requires unseen { IsTrue (not (takes_chars world.old.scene stream)) }
+    ensures calm { IsOk result }
+    ensures new { OnOk result (world.new
+        ≡ after world.old (put_chars world.old.scene stream (numbers_in width memory.now at count))) }
+{
+    for i in 0..count {
+        world.put(stream, memory.number(width, at + width * i))?;
+    }
+    Ok(())
 }
 
 /// Puts numbers that are there.
@@ -131,16 +157,19 @@ fn put_numbers<A: Allocator + Clone>(
     requires width { IsCharWidth width }
     requires there { 0 < count → at + width * count ≤ length state.now.flat.memory }
     requires low { 0 < count → at + width * count < 2 ^ 32 }
-    ensures value { MakesCall (IsTrue (streams.has world.old.scene.streams stream && not (count == 0))) result world.old
+    ensures value { MakesCall (IsTrue (put_grows_some world.old.scene stream (not (count == 0)))) result world.old
         world.new (put_all world.old.scene state.now.flat stream (numbers_in width state.now.flat.memory at count)) }
     ensures fits { (room : ℕ) → IfOk result (IsReply state.now.flat room) }
 {
-    let streams = world.streams();
-    if !streams.has(stream) {
+    if !world.streams().has(stream) {
         return Ok(reply(world.alloc(), 0));
     }
     let places = world.places(stream, count);
     can_lay(state, places)?;
+    if !world.takes(stream) {
+        put_unseen(world, state.memory(), stream, width, at, count)?;
+        return Ok(reply(world.alloc(), 0));
+    }
     let numbers = numbers_at(world.alloc(), state.memory(), width, at, count)?;
     let chars = numbers.as_slice();
     world.puts(stream, chars)?;

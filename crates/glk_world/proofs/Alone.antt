@@ -31,7 +31,7 @@ none_at_0 all first = elim (streams.has all 0) as (λ b. streams.has all 0 ≡ b
   | false ↦ λ gone. refl
 ] refl
 
-some_streams : (all : List Stream) (s : ℕ) → streams.has all s ≡ true → (n : ℕ) × (length all ≡ suc n)
+pub some_streams : (all : List Stream) (s : ℕ) → streams.has all s ≡ true → (n : ℕ) × (length all ≡ suc n)
 some_streams [] s there = absurd (cc)
 some_streams (x ∷ xs) s there = (length xs, refl)
 

@@ -9,3 +9,4 @@ pub mod Links
 pub mod Names
 pub mod Echoes
 pub mod Alone
+pub mod Unseen

@@ -9,7 +9,7 @@ use Rattle.glk_streams.specs.declared.kinds.Stream.{Stream}
 pub use Rattle.glk_streams.specs.Stream.{no_places}
 use Rattle.glk_streams.specs.Stream as one
 use Rattle.glk_streams.specs.Streams as streams
-use Rattle.glk_windows.specs.Constants.{text_buffer}
+use Rattle.glk_windows.specs.Constants.{text_buffer, text_grid}
 use Rattle.glk_windows.specs.declared.entries.Entry.{Entry}
 use Rattle.glk_windows.specs.Windows.{window_entry}
 use Rattle.glk_windows.specs.Changes.{put_to}
@@ -84,6 +84,13 @@ abbrev pub is_plain_text : Scene → ℕ → Bool
 is_plain_text w stream =
     streams.has w.streams stream && not (window_of_stream w stream == 0) && (entry_of w stream).kind == text_buffer
     && (entry_of w stream).echo == 0
+
+-- A stream takes the characters that are put to it: it is open for writing, and that of a window leads to text, to a
+-- grid or to an echo stream.
+abbrev pub takes_chars : Scene → ℕ → Bool
+takes_chars w stream = let e = entry_of w stream in
+    if window_of_stream w stream == 0 then one.writable (streams.stream w.streams stream)
+    else e.kind == text_buffer || e.kind == text_grid || not (e.echo == 0)
 
 -- putting to one stream adds text, or makes a file longer
 abbrev pub stream_grows : Scene → ℕ → ℕ → Bool

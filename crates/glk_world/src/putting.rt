@@ -12,7 +12,7 @@ ghost use Rattle.glk_world.specs.World.{after, silent};
 ghost use Rattle.glk_world.specs.Putting.{said_char, buffer_put, window_of_stream, window_put};
 ghost use Rattle.glk_world.specs.Putting.{stream_put};
 ghost use Rattle.glk_world.specs.Putting.{stream_grows, echo_of, put_along, put_of, put_chars, is_plain_text};
-ghost use Rattle.glk_world.specs.Putting.{grows_along};
+ghost use Rattle.glk_world.specs.Putting.{grows_along, takes_chars};
 ghost use Rattle.glk_world.specs.Putting.{put_grows, end_along, chain_end, places_of, places_read, leads_along};
 ghost use Rattle.glk_world.specs.Putting.{leads_to};
 ghost use Rattle.glk_world.specs.Calls.{chars_got, char_got, with_echo};
@@ -20,7 +20,7 @@ ghost use Rattle.glk_world.specs.Calls.{chars_got, char_got, with_echo};
 use crate::{View, World};
 use glk_streams::{NO_PLACES, Places};
 use glk_text::show;
-use glk_windows::{Entry, TEXT_BUFFER};
+use glk_windows::{Entry, TEXT_BUFFER, TEXT_GRID};
 use gx_words::LINE_FEED;
 use std::alloc::AllocError;
 
@@ -29,6 +29,9 @@ impl World {
     pub fn put(&mut self, stream: u32, c: u32) -> Result<(), AllocError>
         ensures ok { OnOk result (self.new ≡ after self.old (put_of self.old.scene stream c)) }
         ensures memory { OnErr result (IsTrue (put_grows self.old.scene stream c)) }
+        ensures takes { OnErr result (IsTrue (takes_chars self.old.scene stream)) }
+        ensures stays { OnOk result
+            (IsTrue (not (takes_chars self.old.scene stream)) → IsTrue (not (takes_chars self.new.scene stream))) }
 
         // No chain has more streams than there are, so that more turns would do the same.
         ensures whole { (more : ℕ) → put_along (length self.old.scene.streams + more) self.old.scene stream c
@@ -53,6 +56,22 @@ impl World {
         };
         self.put_found(at, win, stream, c)?;
         Ok(true)
+    }
+
+    /// Whether a stream takes the characters that are put to it: one that is open for writing, of a window only where
+    /// that shows text or has an echo stream. Of any other no character is seen.
+    pub fn takes(&self, stream: u32) -> bool
+        requires { IsTrue (streams.has self.now.scene.streams stream) }
+        ensures value { result ≡ takes_chars self.now.scene stream }
+        ensures places { IsTrue (not (takes_chars self.now.scene stream)) → (count : ℕ)
+            → (places_of self.now.scene stream count).count ≡ 0 }
+    {
+        let win = self.streams.window(stream);
+        if win == 0 {
+            return self.streams.writable(stream);
+        }
+        let entry = self.windows.entry_at(win);
+        entry.kind == TEXT_BUFFER || entry.kind == TEXT_GRID || entry.echo != 0
     }
 
     /// Puts characters, one after another.

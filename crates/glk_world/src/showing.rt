@@ -7,6 +7,7 @@ ghost use Rattle.glk_screen.specs.Wrapper.{wrapped_chars};
 ghost use Rattle.glk_world.specs.World.{after, said_each, is_composed};
 ghost use Rattle.glk_world.specs.Naming.{IsWholeScene};
 ghost use Rattle.glk_world.specs.Shown.{said_row, said_grid, show_rows, screen_of, is_prompting};
+ghost use Rattle.glk_world.specs.Shown.{last_rows, same_rows};
 ghost use Rattle.glk_world.specs.Shown.{show_screen, is_last, screen_again, row_let_go, IsHeld, end_text, EndWants};
 ghost use Rattle.glk_world.specs.Shown.{show_grids, ShowWants, show_prompt, show_line};
 
@@ -143,7 +144,10 @@ impl World {
     /// Shows a grid, where it differs from what was shown of it last.
     #[tactic(auto, using(crate::proofs::Texts::silences), unfolding(crate::specs::Shown::said_grid))]
     fn say_grid(&mut self, grid: &ShownGrid) -> Result<(), AllocError>
-        ensures { OnOk result (self.new ≡ after self.old (said_grid self.old.scene grid.now)) }
+        ensures ok { OnOk result (self.new ≡ after self.old (said_grid self.old.scene grid.now)) }
+        ensures differs { OnErr result
+            (IsTrue (not (same_rows grid.now.rows (last_rows self.old.scene.shown grid.now.id)))) }
+        ensures memory { OnErr result (grid.now.rows ≢ []) }
     {
         if was_shown(&self.shown, grid) {
             return Ok(());
@@ -154,7 +158,8 @@ impl World {
     /// Shows rows.
     #[tactic(auto, using(crate::proofs::Texts::row_turns))]
     fn say_rows(&mut self, rows: &[Numbers]) -> Result<(), AllocError>
-        ensures { OnOk result (self.new ≡ after self.old (said_each said_row self.old.scene rows.now)) }
+        ensures ok { OnOk result (self.new ≡ after self.old (said_each said_row self.old.scene rows.now)) }
+        ensures memory { OnErr result (rows.now ≢ []) }
     {
         for row in rows {
             self.say_row(row.as_slice())?;
@@ -165,7 +170,8 @@ impl World {
     /// Shows a row that isn't blank, on a line of its own.
     #[tactic(auto, using(crate::proofs::Texts::silences), unfolding(crate::specs::Shown::said_row))]
     fn say_row(&mut self, row: &[u32]) -> Result<(), AllocError>
-        ensures { OnOk result (self.new ≡ after self.old (said_row self.old.scene row.now)) }
+        ensures ok { OnOk result (self.new ≡ after self.old (said_row self.old.scene row.now)) }
+        ensures memory { OnErr result (row.now ≢ []) }
     {
         if row.is_empty() {
             return Ok(());

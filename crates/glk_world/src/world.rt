@@ -249,6 +249,16 @@ impl World {
         }
     }
 
+    /// The same with its name, which it lends.
+    #[tactic(auto, using(glk_objects::proofs::Places::places))]
+    pub fn reference(&self, id: u32) -> Option<&FileReference>
+        ensures { MatchOption result (has_reference self.now.scene id ≡ false)
+            (λ r. (has_reference self.now.scene id ≡ true) × (r.now ≡ reference_at self.now.scene id)) }
+    {
+        let at = place(&self.references, id);
+        self.references.get(at)
+    }
+
     /// The call that waits to go on.
     pub fn waiting(&self) -> Option<&Waiting>
         ensures { MatchOption result (self.now.scene.waiting ≡ None)
