@@ -19,6 +19,7 @@ texts_matched f = rw (
   first_value-rows f (codes "echo"),
   first_value-rows f (codes "screen"),
   first_value-rows f (codes "plain"),
+  first_value-rows f (codes "wrap"),
   first_value-rows f (codes "job"),
 ) refl
 
