@@ -29,15 +29,17 @@ text_rule name usual = record (new_rule name) { long = Some name; defaults = usu
 abbrev pub flag_rule : Text → Rule
 flag_rule name = record (new_rule name) { long = Some name; action = Some SetTrue }
 
--- STORY, which has to be there, and the options
-unfoldable pub player : App
-player = fold with_rule (new_app (codes "gx_player")) (record (new_rule (codes "STORY")) { required = true }
+-- STORY, which has to be there, and the options that take a number
+abbrev pub with_numbers : App
+with_numbers = fold with_rule (new_app (codes "gx_player")) (record (new_rule (codes "STORY")) { required = true }
     ∷ text_rule (codes "steps") (codes "1000000000000000" ∷ []) ∷ text_rule (codes "columns") (codes "80" ∷ [])
     ∷ text_rule (codes "rows") (codes "24" ∷ []) ∷ text_rule (codes "undo") (codes "16" ∷ [])
-    ∷ text_rule (codes "seed") [] ∷ text_rule (codes "back") (codes "0" ∷ [])
-    ∷ flag_rule (codes "echo") ∷ flag_rule (codes "screen") ∷ flag_rule (codes "plain")
-    ∷ flag_rule (codes "wrap")
-    ∷ text_rule (codes "job") (codes "play" ∷ []) ∷ [])
+    ∷ text_rule (codes "seed") [] ∷ text_rule (codes "back") (codes "0" ∷ []) ∷ [])
+
+-- and the others
+unfoldable pub player : App
+player = fold with_rule with_numbers (flag_rule (codes "echo") ∷ flag_rule (codes "screen") ∷ flag_rule (codes "plain")
+    ∷ flag_rule (codes "wrap") ∷ text_rule (codes "job") (codes "play" ∷ []) ∷ [])
 
 -- WHAT A COMMAND LINE ASKS FOR: the name of the file, the budget of the run, the size of the screen, how many copies
 -- are kept for undo, the seed of the random words, if there is one, how many units job rewind goes back, whether each

@@ -1,44 +1,45 @@
 -- THE HEADLINE: what `play` does (crates/gx_play/src/entry.rt), the call that the program makes.
 --
 -- Give it a command line, and an input, an output, a shelf of files and random words of any kind. It comes to the
--- outcome that `outcome_of` of specs/Outcomes has for the command line and for the file under the name there, and to
--- nothing else. (A name of which no file is said is one of the contract at the end of this file, or of its fields.)
+-- outcome that `outcome_of` of specs/Outcomes gives for the command line and for the file of the name in it, and to
+-- nothing else. (Names without a file are defined at the end of this file: they are the contract and its fields.)
 --
--- - The words are not understood, which is so exactly where specs/Commands has no command for them: nothing at all is
---   done. Or there is no story: the status and the number of the fault say so. No input is read, no text sent, no word
---   drawn and no machine made.
+-- - The words are not understood. This is so exactly where specs/Commands has no command for them. Then nothing at all
+--   is done. Or there is no story: the status and the number of the fault say so. No input is read, no text sent, no
+--   word drawn and no machine made.
 -- - The story's start function can't be entered: status 3, with the fault and the function's address. Nothing is read,
 --   sent or drawn then either.
 -- - Else the story runs. The run is the session of gx_session/specs/Session, from the story's first machine, with the
---   command's depth of undo, to the session's end (`IsRun` of gx_session/specs/Runs, and there `EndsAt`): its status,
---   fault, address and steps, the machine and what it asks, the text, the input and the random words that are left (one
---   more of these may be drawn, since a step is handed the word that it may use); the calls of the sink, one by one:
---   which bytes of the text each was handed, and that it took them whole (`sends_are` of `EndsAt`); and the calls of
---   the shelf, one by one: what was loaded, stored, removed and looked for, under which names and in which order, and
---   what the shelf answered (`asked_are` of `EndsAt`). Or it was cut short, because a device failed or memory ran out
---   (`StopsEarly` of Runs): then the machine stands at one of the session's configurations, and the calls of the sink
---   and of the shelf are those up to there, with the one that was refused where it was one of these two that refused.
--- - In job rewind the story runs just so, and its run is recorded. Where it came to its end, with a status below 8, one
---   line of specs/Rewinding follows the text as it stands, also in mid-line. It tells of the machine at the newest
---   beginning of a step since when at least so many units were used as the command says; at the first one, where fewer
---   were used; at the end, where the command says 0. That machine is one of the run's, with the units that were used up
---   to it (`records` of `IsRun`). A step whose Glk call ended the program isn't recorded, so that the end is then where
---   it began. Text, files, status, fault, address and steps are those of the run. But the sink may fail at the line
---   (status 10), or memory may run out (11): then some front of the line was sent. No machine is handed back.
--- - In the jobs check and work one line of specs/Jobs is sent, with its status, or a front of it where the output fails
---   or wants memory. No machine is handed back. Every number has a story that can be started (`works`).
--- - In job asm the story of the code that the file's text spells is sent, in job list the text of the story's start
+--   command's depth of undo, to the session's end (`IsRun` of gx_session/specs/Runs, and there `EndsAt`). Its status,
+--   fault, address and steps are those of that end. So are the machine and what it asks, the text, and the input and
+--   the random words that are left (one more word may be drawn, since a step is handed the word that it may use). So
+--   are the calls of the sink, one by one: which bytes of the text each was handed, and that it took them whole
+--   (`sends_are` of `EndsAt`). And so are the calls of the shelf, one by one: what was loaded, stored, removed and
+--   looked for, under which names and in which order, and what the shelf answered (`asked_are` of `EndsAt`).
+-- - Or the run was cut short, because a device failed or memory ran out (`StopsEarly` of Runs). Then the machine stands
+--   at one of the session's configurations. The calls of the sink and of the shelf are those up to there, and the
+--   refused one, if it was one of these two that refused.
+-- - In job rewind the story runs just so, and its run is recorded. If it came to its end, with a status below 8, one
+--   line of specs/Rewinding follows the text as it stands, also in mid-line. The line tells of the machine at the
+--   newest beginning of a step since when at least so many units were used as the command says; at the first one, if
+--   fewer were used; at the end, if the command says 0. That machine is one of the run's, with the units that were used
+--   up to it (`records` of `IsRun`). A step whose Glk call ended the program isn't recorded, so that the end is then
+--   where it began. Text, files, status, fault, address and steps are those of the run. But the sink may fail at the
+--   line (status 10), or memory may run out (11): then some front of the line was sent. No machine is handed back.
+-- - In the jobs check and work one line of specs/Jobs is sent, with its status, or a front of it if the output fails or
+--   wants memory. No machine is handed back. Every number has a story that can be started (`works`).
+-- - In job asm the story of the code that the file's text spells is sent, and in job list the text of the story's start
 --   function, or a front of it. A text without a code, and a story without a listing, come to a status of their own,
---   with the fault that the definitions of gx_asm have for it and the line or the address where it stands; nothing is
+--   with the fault that the definitions of gx_asm have for it and the line or the address where it stands. Nothing is
 --   sent then.
 -- - Or nothing was begun, because the shelf failed or memory ran out before.
 --
--- Where no run was begun no machine is handed back, no step is done, no input is read, no random word is drawn, and in
--- the jobs that play a story no text is sent (`IsUnrun` and `HasNoMachine` in `Plays` of specs/Answers, whose outcome
--- in these jobs is then `refused`).
+-- If no run was begun, no machine is handed back, no step is done, no input is read and no random word is drawn. In the
+-- jobs that play a story no text is sent then (`IsUnrun` and `HasNoMachine` in `Plays` of specs/Answers, whose outcome
+-- in these jobs is `refused`).
 --
 -- The text of a session is that of the view that the command line chooses (`view_for` in specs/Commands; what each view
--- shows is said in glk_world/specs/Shown and Putting), and all of this holds with each of them:
+-- shows is said in glk_world/specs/Shown and Putting). All of this holds in each view:
 --
 -- - As usual it is what is put to text buffer windows, in that order, with the prompts for names of files, and with
 --   `--echo` the lines that are taken; and before a line is awaited the rows of each grid that has changed, each row
@@ -55,49 +56,54 @@
 --   the characters which come are those of the same run without `--wrap` is not said: that no definition of a Glk call
 --   looks at the present row is seen by reading them.
 --
--- The random words are the device's, or with `--seed` those of specs/Seeds. Then the device isn't drawn from at all, in
--- any job and whatever the end (`undrawn`), and the outcome is the same over any other words that it might hold
--- (`settled`): so status, fault, address, steps, text, files and machine of a session are a function of the command
--- line, the story, the files and the input alone.
+-- The random words are the device's, or with `--seed` those of specs/Seeds. Then the device isn't asked for any, in any
+-- job and whatever the end (`undrawn`), and the outcome is the same for any other words that it might hold (`settled`).
+-- So status, fault, address, steps, text, files and machine of a session are a function of the command line, the story,
+-- the files and the input alone.
 --
--- Text and code spell each other (`spelling`): a text is assembled to a code exactly where it spells it, and a code is
--- listed as a text exactly where the text spells it, so that each undoes the other; the story of a code is accepted,
--- and listed as its instructions up to the first quit or return; and a machine that comes to an instruction's bytes
--- sees that instruction.
+-- Text and code spell each other (`spelling`). A text is assembled to a code exactly if it spells it, and a code is
+-- listed as a text exactly if the text spells it, so that each undoes the other. The story of a code is accepted, and
+-- listed as its instructions up to the first quit or return. A machine that comes to an instruction's bytes sees that
+-- instruction.
 --
--- The shelf is asked once for the file, and then exactly as the session asks it; in job work it isn't asked. Where it
--- tells what it holds, each answer is the one of its files as the calls before left them, and its files in the end are
+-- The shelf is asked once for the file, and then exactly as the session asks it. In job work it isn't asked. If it
+-- tells what it holds, each answer is that of its files as the calls before left them, and its files at the end are
 -- what the calls make of them, but for the one that a refused store or remove leaves open (`shelf_calls`). What a
--- source and a sink that tell hold in the end follows likewise (`source_calls`, `sink_calls`). Text is sent before the
--- shelf or the source is asked for anything. Each read of the source has room for 4,096 bytes; fewer are read ahead of
--- the lines that were taken, but for a line that was awaited and is too long, one in which the source failed (then
--- fewer than 65,536; `LeavesInput` of gx_session/specs/Reads), and one in which memory was wanted, of which nothing is
--- said. None is read where no line is awaited. The status blames a device exactly where a call of it failed in this
--- run, which was then its last one (`counts`). Each restoreundo of the session goes back to the newest saveundo that
--- was neither used, nor discarded, nor dropped as the oldest (`LastsUndo` of gx_session/specs/Undoing), whatever was
--- restored from files in between; the protected range keeps its bytes. The bytes that each save of the session puts to
--- its stream are read as the very copy that was saved (`SavedBefore` of gx_session/specs/Runs). So are those
--- of every copy that fits the story; and each save that was one while memory had a lower ceiling, such as 0x04000000,
--- is restored as the same copy (`SavesReadBack` of gx_session/specs/Saving). And where no count of failures rose the
--- status is the outcome's, or memory ran out (`complete`). Every session comes to its stop by a move, so that
--- `final_in` of gx_session/specs/Session is never left without moves (`StopsByMove` there).
+-- source and a sink that tell hold at the end follows likewise (`source_calls`, `sink_calls`).
+--
+-- Text is sent before the shelf or the source is asked for anything. Each read of the source has room for 4,096 bytes,
+-- and none is read where no line is awaited. Fewer than 4,096 bytes are read ahead of the lines that were taken. There
+-- are three exceptions: a line that was awaited and is too long; one in which the source failed (then fewer than
+-- 65,536; `LeavesInput` of gx_session/specs/Reads); and one in which memory was wanted, of which nothing is said.
+--
+-- The status blames a device exactly if a call of it failed in this run, which was then its last one (`counts`). If the
+-- source and the shelf tell what they hold and no count of failures rose, the status is the outcome's, or memory ran
+-- out (`complete`). Every session comes to its stop by a move, so that `final_in` of gx_session/specs/Session is never
+-- left without moves (`StopsByMove` there).
+--
+-- Each restoreundo of the session goes back to the newest saveundo that was neither used, nor discarded, nor dropped as
+-- the oldest (`LastsUndo` of gx_session/specs/Undoing), whatever was restored from files in between. The protected
+-- range keeps its bytes. The bytes that each save of the session puts to its stream are read as the very copy that was
+-- saved (`SavedBefore` of gx_session/specs/Runs), and so are those of every copy that fits the story. A save that was
+-- one while memory had a lower ceiling, such as 0x04000000, is restored as the same copy (`SavesReadBack` of
+-- gx_session/specs/Saving).
 --
 -- Premises: that the story's file is the one that the shelf holds is said of a shelf that tells what it holds, as one
--- in memory does. A real one doesn't, and there the run is that of the bytes that it handed out (`loads`), and the
--- session's answers are those that it gave (`answers` in `IsRun` of gx_session/specs/Runs): whatever a shelf
--- does, the session's calls are those that were made, with the answers that came. Likewise the input is what a source
--- that tells has left; for a real one it is the bytes that its reads gave, one after another, and some that may be
--- still to come (`GiveInput` of gx_session/specs/Reads). Which bytes a sink was handed, call by call, is said of every
--- one; which of them it took, of one that tells. What a call of a device is to it, `called`, may be no more than how it
--- is counted, as with the program's own: that the calls here are those that were made rests on `play` being proved for
--- every source, sink and shelf.
+-- in memory does. A real one doesn't. There the run is that of the bytes that it handed out (`loads`), and the
+-- session's answers are those that it gave (`answers` in `IsRun` of gx_session/specs/Runs): whatever a shelf does, the
+-- session's calls are those that were made, with the answers that came. Likewise the input is what a source that tells
+-- has left; for a real one it is the bytes that its reads gave, one after another, and some that may be still to come
+-- (`GiveInput` of gx_session/specs/Reads). Which bytes a sink was handed, call by call, is said of every sink; which of
+-- them it took, of one that tells. What a call does to a device, `called`, may be no more than how it is counted, as
+-- with the program's own devices. That the calls here are those that were made rests on `play` being proved for every
+-- source, sink and shelf.
 --
--- Each of the three devices has a trace of its own, and no clause sets a call of one beside a call of another; but
--- their order follows. Any of them may fail at any call, and `play` can't know that a call will fail before it is
--- made. Where one fails the run is cut short at one configuration, and the traces of the other two are those of the
--- session up to there (`StopsEarly`): no send or store of later is among them, and none of before is missing. So the
--- same calls came before it where it doesn't fail. A read may be made ahead of what is taken; but it may give all
--- 4,096 bytes, and fewer are held then (`LeavesInput`), so that none is made before its line is awaited.
+-- Each of the three devices has a trace of its own. No clause sets a call of one beside a call of another, but their
+-- order follows. Any of them may fail at any call, and `play` can't know that a call will fail before it is made. If
+-- one fails, the run is cut short at one configuration, and the traces of the other two are those of the session up to
+-- there (`StopsEarly`): no later send or store is among them, and no earlier one is missing. So the same calls came
+-- before it in a run where it doesn't fail. A read may be made ahead of what is taken. But it may give all 4,096 bytes,
+-- and fewer are held then (`LeavesInput`), so that none is made before its line is awaited.
 --
 -- Limits: nothing is said of time, nor of how much memory a run takes; that ample memory suffices is only tested.
 -- Nothing is said of what a terminal makes of the text: the composed screen counts columns by the crate unicode_width.
@@ -108,8 +114,8 @@
 --     ask), and a step that is Spent by itself (`after_effect`; no row has this effect, and that isn't proved apart);
 --   - a call that goes on where none waits (`go_by` of glk_dispatch/specs/Going; a `requires` of `go_on`);
 --   - an answer or a copy where the instruction at PC is none that asks (`answered_row` and `answered_in` of
---     gx_machine/specs/Answer, `saved_copy` of its Saves; `IsPendingAnswer` of its Views holds of every machine that
---     has asked);
+--     gx_machine/specs/Answer, `saved_copy` of its SavedCopies; `IsPendingAnswer` of its Views holds of every machine
+--     that has asked);
 --   - a fault on the way back to a copy (`restored_to` of gx_state/specs/Copies; gx_state/proofs/Backs).
 -- Status 11 (`status_no_memory`) is a free answer wherever memory may be wanted: before anything is done, whatever the
 -- words are, so that a body that does nothing and answers so meets the contract; once the file was asked for, only

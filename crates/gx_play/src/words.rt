@@ -5,7 +5,7 @@
 //! other.
 ghost use Rattle.std.specs.Prelude.{◌≡◌, IfOk, MatchResult, false, true, map, [], ◌∷◌, codes};
 ghost use Rattle.clap.specs.Words.{app_of, new_rule, rule_of};
-ghost use Rattle.gx_play.specs.Commands.{player, text_rule, flag_rule};
+ghost use Rattle.gx_play.specs.Commands.{player, with_numbers, text_rule, flag_rule};
 ghost use Rattle.gx_play.specs.Reading.{HasMatches, IsUnread};
 
 use crate::command::CommandFault;
@@ -32,6 +32,23 @@ pub fn match_words<'a>(alloc: Global, words: &'a [&'a str]) -> Result<ArgMatches
 fn player<'a>(alloc: Global) -> Result<Command<'a>, AllocError>
     ensures { IfOk result (λ command. app_of command ≡ player) }
 {
+    let echo = flag_arg(alloc, "echo");
+    let screen = flag_arg(alloc, "screen");
+    let plain = flag_arg(alloc, "plain");
+    let wrap = flag_arg(alloc, "wrap");
+    let job = text_arg(alloc, "job", "play");
+    let with_numbers = numbers_command(alloc)?;
+    let with_echo = with_numbers.arg(echo)?;
+    let with_screen = with_echo.arg(screen)?;
+    let with_plain = with_screen.arg(plain)?;
+    let with_wrap = with_plain.arg(wrap)?;
+    with_wrap.arg(job)
+}
+
+/// The command with STORY and the options that take a number.
+fn numbers_command<'a>(alloc: Global) -> Result<Command<'a>, AllocError>
+    ensures { IfOk result (λ command. app_of command ≡ with_numbers) }
+{
     let story = story_arg(alloc);
     let steps = text_arg(alloc, "steps", "1000000000000000");
     let columns = text_arg(alloc, "columns", "80");
@@ -39,23 +56,13 @@ fn player<'a>(alloc: Global) -> Result<Command<'a>, AllocError>
     let undo = text_arg(alloc, "undo", "16");
     let seed = free_arg(alloc, "seed");
     let back = text_arg(alloc, "back", "0");
-    let echo = flag_arg(alloc, "echo");
-    let screen = flag_arg(alloc, "screen");
-    let plain = flag_arg(alloc, "plain");
-    let wrap = flag_arg(alloc, "wrap");
-    let job = text_arg(alloc, "job", "play");
     let with_story = Command::new(alloc, "gx_player").arg(story)?;
     let with_steps = with_story.arg(steps)?;
     let with_columns = with_steps.arg(columns)?;
     let with_rows = with_columns.arg(rows)?;
     let with_undo = with_rows.arg(undo)?;
     let with_seed = with_undo.arg(seed)?;
-    let with_back = with_seed.arg(back)?;
-    let with_echo = with_back.arg(echo)?;
-    let with_screen = with_echo.arg(screen)?;
-    let with_plain = with_screen.arg(plain)?;
-    let with_wrap = with_plain.arg(wrap)?;
-    with_wrap.arg(job)
+    with_seed.arg(back)
 }
 
 /// STORY, which has to be there.

@@ -1,6 +1,6 @@
 //! `gx_player STORY [--steps N] [--columns N] [--rows N] [--undo N] [--seed N] [--back N] [--echo]
-//! [--screen | --plain] [--job JOB]`: plays a Glulx story over standard input, standard output and the files of the
-//! current folder, also on a tape that goes back; checks, lists or assembles one; or measures the machine.
+//! [--screen | [--plain] [--wrap]] [--job JOB]`: plays a Glulx story over standard input, standard output and the files
+//! of the current folder, also on a tape that goes back; checks, lists or assembles one; or measures the machine.
 //!
 //! `play` (gx_play) does all of it over objects that are handed in; `real` has those of the program.
 //!

@@ -14,9 +14,9 @@ use Rattle.gx_rewind.specs.declared.books.Book.{Book}
 use Rattle.gx_rewind.specs.declared.books.Note.{Note}
 use Rattle.gx_rewind.specs.declared.books.Spot.{Spot}
 use Rattle.gx_rewind.specs.declared.books.Taken.{Taken}
-use Rattle.gx_rewind.specs.Path.{RunPlace, begun, machine_after_event, taken_by, taken_from, last_place_within, IsFit}
+use Rattle.gx_rewind.specs.Path.{RunPlace, begun, machine_after_event, taken_at, taken_from, last_place_within, IsFit}
 use Rattle.gx_rewind.specs.Path.{IsPath}
-use Rattle.gx_rewind.specs.Views.{log_of, IsBook, IsHeld}
+use Rattle.gx_rewind.specs.Views.{log_of, IsBook, IsCheckpoint}
 use Rattle.gx_rewind.proofs.Lists.{taken-last}
 use Rattle.gx_rewind.proofs.Passing.{passes-on, none-passed}
 use Rattle.gx_rewind.proofs.Paths.{units-cons, walk-is, rising, extended, bounded, cut-path, push-path, on-long}
@@ -46,8 +46,8 @@ all-by P Q R f xs ps qs k d less = f (slice_index_or xs k d) (ps k d less) (qs k
 
 -- a checkpoint before a place stays one where what followed is cut off
 cut-place : {A : Type 0} (b : Book A) (m : FlatMachine) (log : Log) → IsBook b m log → (s : Spot A)
-    → IsHeld b.notes.items b.opening b.end s → s.units ≤ b.units
-    → IsHeld (take b.index b.notes.items) b.opening b.units s
+    → IsCheckpoint b.notes.items b.opening b.end s → s.units ≤ b.units
+    → IsCheckpoint (take b.index b.notes.items) b.opening b.units s
 cut-place b m log book s held within =
     let units = book.units_is in
     let here = held.0.units_is in
@@ -74,9 +74,9 @@ cut-book {A} b c k m log book near opening notes checkpoints index units end = r
   units_is = book.units_is ∙ sym units;
   on = units ∙ sym end;
   checkpoints = rw (notes, opening, end, checkpoints)
-      (all-by (IsHeld b.notes.items b.opening b.end) (λ (s : Spot A). s.units ≤ b.units)
-      (IsHeld (take b.index b.notes.items) b.opening b.units) (cut-place b m log book) (take k b.checkpoints.items)
-      (All-take (IsHeld b.notes.items b.opening b.end) k b.checkpoints.items book.checkpoints) near);
+      (all-by (IsCheckpoint b.notes.items b.opening b.end) (λ (s : Spot A). s.units ≤ b.units)
+      (IsCheckpoint (take b.index b.notes.items) b.opening b.units) (cut-place b m log book) (take k b.checkpoints.items)
+      (All-take (IsCheckpoint b.notes.items b.opening b.end) k b.checkpoints.items book.checkpoints) near);
   opening = rw opening book.opening;
 }
 
@@ -98,7 +98,7 @@ is-cut b c m log book notes index cut = record {
 }
 
 free-past : {A : Type 0} (notes : List (Note A)) (i u : ℕ) → i ≡ length notes → taken_from notes i u ≡ None
-free-past notes i u full = ap (taken_by u) (slice_get_past notes i (omega (arith, full)))
+free-past notes i u full = ap (taken_at u) (slice_get_past notes i (omega (arith, full)))
 
 same-path : {A : Type 0} (notes notes' : List (Note A)) (opening opening' : Whole) (before : List FlatMachine)
     (m : FlatMachine) (i i' : ℕ) → notes' ≡ notes → opening' ≡ opening → i' ≡ i
@@ -110,7 +110,7 @@ same-path {A} notes notes' opening opening' before m i i' e f g path =
 
 -- checkpoints stay where more units follow
 held-on : {A : Type 0} (notes : List (Note A)) (opening : Whole) (end end' : ℕ) → end ≤ end' → (xs : List (Spot A))
-    → All (IsHeld notes opening end) xs → All (IsHeld notes opening end') xs
+    → All (IsCheckpoint notes opening end) xs → All (IsCheckpoint notes opening end') xs
 held-on notes opening end end' less xs all k d within = let one = all k d within in let fits = one.1 in
     (one.0, omega (arith, fits, less))
 
@@ -140,7 +140,7 @@ went-book {A} c d k m before cut cost fit opening notes checkpoints index units 
 
 push-held : {A : Type 0} (notes : List (Note A)) (opening : Whole) (end end' : ℕ) (n : Note A) → end ≤ n.units
     → end ≤ end' → (xs : List (Spot A))
-    → All (IsHeld notes opening end) xs → All (IsHeld (notes ++ n ∷ []) opening end') xs
+    → All (IsCheckpoint notes opening end) xs → All (IsCheckpoint (notes ++ n ∷ []) opening end') xs
 push-held notes opening end end' n later less xs all k d within =
     let one = all k d within in
     let s = slice_index_or xs k d in
@@ -228,7 +228,7 @@ none-book b word (suc n) start budget old new log x book p none =
 -- a book that differs only in its checkpoints
 pub like-book : {A : Type 0} (b c : Book A) (m : FlatMachine) (log : Log) → IsBook b m log → c.opening ≡ b.opening
     → c.notes.items ≡ b.notes.items → c.index ≡ b.index → c.units ≡ b.units → c.end ≡ b.end
-    → All (IsHeld b.notes.items b.opening b.end) c.checkpoints.items → IsBook c m log
+    → All (IsCheckpoint b.notes.items b.opening b.end) c.checkpoints.items → IsBook c m log
 like-book b c m log book opening notes index units end held = record {
   path = rw (notes, opening, index) book.path;
   units_is = book.units_is ∙ sym units;
@@ -239,7 +239,7 @@ like-book b c m log book opening notes index units end held = record {
 
 -- the present place is one of the run
 pub present : {A : Type 0} (b : Book A) (m w : Whole) (log : Log) → IsBook b m.machine log → w ≡ m → m.asking ≡ None
-    → IsHeld b.notes.items b.opening b.end (record { machine = w; units = b.units; index = b.index })
+    → IsCheckpoint b.notes.items b.opening b.end (record { machine = w; units = b.units; index = b.index })
 present b m w log book same asks =
     let long = on-long b.notes.items b.units m.machine b.index log.after b.end book.on in (
       record {

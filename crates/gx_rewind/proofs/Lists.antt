@@ -7,7 +7,7 @@ use Rattle.std.proofs.lemmas.Bool.{ltb-false, ltb-true}
 use Rattle.std.proofs.lemmas.Bool.Decides.{nat_tests}
 use Rattle.gx_rewind.specs.declared.books.Note.{Note}
 use Rattle.gx_rewind.specs.declared.books.Taken.{Taken}
-use Rattle.gx_rewind.specs.Path.{taken_by, taken_from, index_after}
+use Rattle.gx_rewind.specs.Path.{taken_at, taken_from, index_after}
 
 pub step-on : {X : Type 0} (b : Bool) (x y : X) → b ≡ false → (if b then x else y) ≡ y
 step-on true x y is = absurd cc
@@ -34,12 +34,12 @@ none-of j (Some t) less = absurd (omega (arith, less))
 
 taken-cut-by : {A : Type 0} (b : Bool) (notes : List (Note A)) (k j u : ℕ) → nat_lt j k ≡ b
     → index_after j (taken_from notes j u) ≤ k → taken_from (take k notes) j u ≡ taken_from notes j u
-taken-cut-by true notes k j u is within = let less = ltb-true j k is in ap (taken_by u) (slice_get-take k notes j less)
+taken-cut-by true notes k j u is within = let less = ltb-true j k is in ap (taken_at u) (slice_get-take k notes j less)
 taken-cut-by false notes k j u is within =
     let more = ltb-false j k is in
     let long = length-take k notes in
     let none : taken_from notes j u ≡ None = none-of j (taken_from notes j u) (omega (arith, within, more)) in
-    ap (taken_by u) (slice_get_past (take k notes) j (omega (arith, more, long))) ∙ sym none
+    ap (taken_at u) (slice_get_past (take k notes) j (omega (arith, more, long))) ∙ sym none
 
 -- the notes before a place, once those from there on are cut off
 pub taken-cut : {A : Type 0} (notes : List (Note A)) (k j u : ℕ) → index_after j (taken_from notes j u) ≤ k
@@ -48,7 +48,7 @@ taken-cut notes k j u within = taken-cut-by (nat_lt j k) notes k j u refl within
 
 pub taken-past : {A : Type 0} (notes : List (Note A)) (k u : ℕ) → taken_from (take k notes) k u ≡ None
 taken-past notes k u = let long = length-take k notes in
-    ap (taken_by u) (slice_get_past (take k notes) k (omega (arith, long)))
+    ap (taken_at u) (slice_get_past (take k notes) k (omega (arith, long)))
 
 -- one more note, of a later event
 pub taken-push : {A : Type 0} (notes : List (Note A)) (n : Note A) (j u : ℕ) → u < n.units

@@ -42,12 +42,12 @@ word_in (taken.Reply reply) = 0
 word_in (taken.Machine gone) = 0
 
 -- what an event took that began after so many units: that of the note, where it is this event's
-abbrev pub taken_by : {A : Type 0} → ℕ → Option (Note A) → Option (Taken A)
-taken_by units None = None
-taken_by units (Some note) = if note.units == units then Some note.taken else None
+abbrev pub taken_at : {A : Type 0} → ℕ → Option (Note A) → Option (Taken A)
+taken_at units None = None
+taken_at units (Some note) = if note.units == units then Some note.taken else None
 
 abbrev pub taken_from : {A : Type 0} → List (Note A) → ℕ → ℕ → Option (Taken A)
-taken_from notes index units = taken_by units (slice_get notes index)
+taken_from notes index units = taken_at units (slice_get notes index)
 
 -- the next note is that after one which was used
 abbrev pub index_after : {A : Type 0} → ℕ → Option (Taken A) → ℕ

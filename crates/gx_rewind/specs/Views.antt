@@ -41,15 +41,15 @@ abbrev pub IsSpotIn : {A : Type 0} → List (Note A) → Whole → Spot A → Ty
 IsSpotIn notes opening s = IsAt notes opening s.machine s.index s.units
 
 -- the same, before so many units
-abbrev pub IsHeld : {A : Type 0} → List (Note A) → Whole → ℕ → Spot A → Type 0
-IsHeld notes opening end s = IsSpotIn notes opening s × (s.units ≤ end)
+abbrev pub IsCheckpoint : {A : Type 0} → List (Note A) → Whole → ℕ → Spot A → Type 0
+IsCheckpoint notes opening end s = IsSpotIn notes opening s × (s.units ≤ end)
 
 -- a book records this run
 pub record IsBook {A : Type 0} (b : Book A) (m : FlatMachine) (log : Log) : Type 0 where
   pub path : IsPath b.notes.items b.opening.machine log.before m b.index
   pub units_is : units_of log.before ≡ b.units
   pub on : IsOn b.notes.items b.units m b.index log.after b.end
-  pub checkpoints : All (IsHeld b.notes.items b.opening b.end) b.checkpoints.items
+  pub checkpoints : All (IsCheckpoint b.notes.items b.opening b.end) b.checkpoints.items
   pub opening : b.opening.asking ≡ None
 
 -- some run is recorded

@@ -32,7 +32,7 @@ use Rattle.rand_core.specs.Stream.{Stream, next_u32}
 abbrev pub with_all : List (List ℕ) → List ℕ → List (List ℕ)
 with_all s text = s ++ pending s text ∷ []
 
--- the configuration once the last screen is shown, where the screen is composed
+-- the configuration once the last screen is shown, where the screen is composed, or what is held is let go
 abbrev pub with_last_screen : Configuration → Configuration
 with_last_screen m = record m { world = after m.world (end_text m.world.scene) }
 

@@ -1,5 +1,5 @@
--- THE ENDING: after a stop the last screen is shown, where the screen is composed. Then the pending text is sent, and
--- each file stream that is open for writing is stored, in order of creation.
+-- THE ENDING: after a stop the last screen is shown, where the screen is composed, or what is held of wrapped text is
+-- let go. Then the pending text is sent, and each file stream that is open for writing is stored, in order of creation.
 use Rattle.std.specs.Prelude.{ℕ, if◌then◌else◌, List, Ok}
 use Rattle.std.specs.List.{filter_map}
 use Rattle.glk_streams.specs.Stream.{stored_file}

@@ -1,5 +1,5 @@
 -- A session: the machine and the Glk world from a start to the end of the run, move by move.
--- Where it stops, a screen that is composed is shown once more.
+-- Where it stops, a screen that is composed is shown once more, and of wrapped text what is held is let go.
 use Rattle.std.specs.Prelude.{◌≡◌, ℕ, suc, zero, ◌+◌, ◌*◌, if◌then◌else◌, Option, Some, None, option_and_then}
 use Rattle.gx_words.specs.Faults.{number_of}
 use Rattle.gx_machine.specs.Machine.{FlatMachine}
@@ -38,7 +38,8 @@ moves_by (goes_on g w) left = 5 * w.left + 2
 unfoldable pub stop_of : Configuration → RunEnd
 stop_of m = final_in (suc (moves_by m.phase m.left + (if sends_now m then 1 else 0))) m
 
--- THE END OF THE RUN: where it stops, once the last screen is shown, where the screen is composed.
+-- THE END OF THE RUN: where it stops, once the last screen is shown, where the screen is composed; or once what is held
+-- of wrapped text is let go.
 unfoldable pub final_of : Configuration → RunEnd
 final_of m = let c = (stop_of m).configuration in
     record { stop = (stop_of m).stop; configuration = record c { world = after c.world (end_text c.world.scene) } }

@@ -245,7 +245,8 @@ fn store_files<F: Shelf>(world: &World, shelf: &mut F) -> Result<(), Halt>
     Ok(())
 }
 
-/// The ending: the last screen is shown, the pending text is sent, and then the open files are stored.
+/// The ending: the last screen is shown, or what is held of wrapped text; the pending text is sent; and then the open
+/// files are stored.
 fn end<A: Allocator + Clone, E: Engine<A>, K: Sink, F: Shelf>(
     run: &mut Running<E>,
     output: &mut K,

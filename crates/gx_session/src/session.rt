@@ -52,8 +52,9 @@ fn fault_address<A: Allocator + Clone, E: Engine<A>>(engine: &E, stop: Stop) -> 
 /// After a fault or a spent budget, and where no line can be taken, the engine stands before the step,
 /// which isn't counted; at the program's end the last step is counted. A Glk call that is stopped there,
 /// or that ends the program, stays pending. At each of these ends a screen that is composed is shown once more,
-/// and then all text is sent and the open files are stored. Where the run is cut short, also at its end, the
-/// engine stands at a configuration of the session, and nothing more is shown, sent or stored.
+/// or what is held of wrapped text is let go, and then all text is sent and the open files are stored. Where the
+/// run is cut short, also at its end, the engine stands at a configuration of the session, and nothing more is
+/// shown, sent or stored.
 ///
 /// Lines are taken from `alloc`'s memory; with `echo` each line that is taken is shown.
 pub fn run_on<A: Allocator + Clone, E: Engine<A>, S: Source, K: Sink, F: Shelf, R: Rng>(

@@ -1,7 +1,7 @@
 -- one checkpoint more
 use Rattle.std.proofs.Common.{◌∷◌, [], refl}
 use Rattle.std.proofs.lemmas.List.Elements.{All-append}
-use Rattle.gx_rewind.specs.Views.{IsHeld}
+use Rattle.gx_rewind.specs.Views.{IsCheckpoint}
 use Rattle.gx_rewind.proofs.Kept.{like-book, one-held, present}
 use Rattle.gx_rewind.proofs.books.Book.check.Goals as goal
 
@@ -13,5 +13,5 @@ returns-clause-book g c =
     c.spare.ensures.book c.args.machine.now.machine log
     (like-book b _ c.args.machine.now.machine log book refl refl refl refl refl
     (rw c.in_ok-push.ensures.items
-    (All-append (IsHeld b.notes.items b.opening b.end) b.checkpoints.items (_ ∷ []) book.checkpoints
-    (one-held (IsHeld b.notes.items b.opening b.end) _ one))))
+    (All-append (IsCheckpoint b.notes.items b.opening b.end) b.checkpoints.items (_ ∷ []) book.checkpoints
+    (one-held (IsCheckpoint b.notes.items b.opening b.end) _ one))))
