@@ -11,12 +11,12 @@ use Rattle.gx_state.specs.declared.modes.Dest.TheVariants as dest
 use Rattle.gx_state.specs.Flat.{FlatState}
 use Rattle.gx_operands.specs.declared.cursor.Cursor.{Cursor}
 use Rattle.gx_operands.specs.declared.reading.Loads.{Loads}
-use Rattle.gx_operands.specs.Instructions.{Operands, load, destination}
+use Rattle.gx_operands.specs.Instructions.{Operands, Instruction, load, destination}
 
 -- a row of so many loads, and behind them so many stores, of four bytes
-pub record IsShort (row : Row) (loads stores : ℕ) : Type 0 where
-  pub loads : row.loads ≡ loads
-  pub stores : row.stores ≡ stores
+pub record IsShort (row : Row) (l s : ℕ) : Type 0 where
+  pub loads : row.loads ≡ l
+  pub stores : row.stores ≡ s
   pub width : row.width ≡ 4
   pub in_order : row.store_first ≡ false
 
@@ -61,3 +61,8 @@ operands_by loads stores l d =
       stored = nat_lt 0 stores;
       cursor = l.cursor;
     }
+
+-- an instruction by its row and the values that it was read into, with at most one result
+abbrev pub by_values : Row → List ℕ → ℕ → Dest → ℕ → Instruction
+by_values row loads sp d next =
+    record { row = row; loads = loads; dest = d; second = dest.Nowhere; next = next; sp = sp }
