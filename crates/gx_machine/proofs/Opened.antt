@@ -3,7 +3,7 @@ use Rattle.gx_stack.specs.Calls as calls
 use Rattle.gx_state.specs.Calls.{pushed, pushed_all, with_local}
 use Rattle.gx_state.specs.Stores.{store_fault}
 use Rattle.ops_flow.specs.FlowRows.{computes, jumps, flow, callf}
-use Rattle.ops_memory.specs.MemoryRows.{memory, copy, aload, aloads, aloadb, astore, astores, astoreb}
+use Rattle.ops_memory.specs.MemoryRows.{memory, aload, aloads, aloadb, astore, astores, astoreb}
 
 -- a store in a local, on both levels
 unfoldable pub setting_local : Unit {0}
@@ -25,5 +25,5 @@ unfolding jumps memory astore astores astoreb
 rows_of_three = tt
 
 unfoldable pub rows_of_one_and_store : Unit {0}
-unfolding computes flow callf copy
+unfolding computes flow callf
 rows_of_one_and_store = tt

@@ -103,7 +103,7 @@ fn row_at_pc<A: Allocator + Clone, const ROM: bool>(
 
 /// The same, whether the instruction lies in ROM or not.
 #[inline(always)]
-fn printing_row<A: Allocator + Clone>(state: &State<A>, asks: bool) -> Option<PrintingRow>
+fn row_that_prints<A: Allocator + Clone>(state: &State<A>, asks: bool) -> Option<PrintingRow>
     requires { 0 < sp_of state.now.flat }
     ensures value { IfSome result (λ row. instruction state.now.flat
         ≡ Ok (printing_by row.number row.value row.sp row.next)) }
@@ -124,7 +124,7 @@ pub(crate) fn start<A: Allocator + Clone>(state: &mut State<A>) -> bool
     ensures none { result ≡ false → state.new.flat ≡ state.old.flat }
     ensures story { state.new.flat.story ≡ state.old.flat.story }
 {
-    let Some(row) = printing_row(state, false) else {
+    let Some(row) = row_that_prints(state, false) else {
         return false;
     };
     match print(state, row.number, row.value, row.sp, row.next) {
@@ -141,7 +141,7 @@ pub(crate) fn streamed<A: Allocator + Clone>(state: &State<A>) -> Option<(u32, u
     ensures value { IfSome result (λ r. IsPrintingRow state.now.flat r.1 r.2 (state.now.flat, Put r.0)) }
     ensures height { IfSome result (λ r. IsHeight state.now.flat r.1) }
 {
-    let row = printing_row(state, true)?;
+    let row = row_that_prints(state, true)?;
     let c = asked(state, row.number, row.value)?;
     Some((c, row.sp, row.next))
 }

@@ -102,10 +102,6 @@ fn one_and_store<A: Allocator + Clone>(
     ensures story { state.new.flat.story ≡ state.old.flat.story }
 {
     match row.class {
-        Class::Copy => {
-            store_on(state, sp, dest, 4, a, next)?;
-            Ok(true)
-        }
         Class::Calc => {
             compute(state, row.act, a, 0, sp, dest, next)?;
             Ok(true)
@@ -313,7 +309,7 @@ fn by_values<A: Allocator + Clone, const LOADS: u32, const STORES: u32>(
 
 /// Reads and does a row of a shape.
 #[inline(always)]
-#[tactic(auto, using(crate::proofs::Reading::shapes))]
+#[tactic(auto, using(crate::proofs::Reading::row_done))]
 fn at_shape<A: Allocator + Clone, const ROM: bool, const LOADS: u32, const STORES: u32>(
     state: &mut State<A>,
     row: &Row,
@@ -361,7 +357,7 @@ fn no_quotient<A: Allocator + Clone, const ROM: bool>(
 
 /// Reads and does arithmetic on two operands. Where the result goes is read once it is there, so that the kind of this
 /// place is told once.
-#[tactic(auto, using(crate::proofs::Reading::shapes))]
+#[tactic(auto, using(crate::proofs::Reading::row_done))]
 fn computed<A: Allocator + Clone, const ROM: bool>(
     state: &mut State<A>,
     row: &Row,
@@ -388,6 +384,29 @@ fn computed<A: Allocator + Clone, const ROM: bool>(
         }
         None => Err(no_quotient::<A, ROM>(state, loads.mode, loads.cursor)),
     }
+}
+
+/// Reads and copies a word. Its class is told before it is read, once.
+#[tactic(auto, using(crate::proofs::Reading::row_done))]
+fn copied<A: Allocator + Clone, const ROM: bool>(
+    state: &mut State<A>,
+    row: &Row,
+    modes: u32,
+) -> Result<bool, Fault>
+    requires live { 0 < sp_of state.old.flat }
+    requires class { row.now.class ≡ Class.Copy }
+    requires plain { IsPlain row.now }
+    requires loads { row.now.loads ≡ 1 }
+    requires stores { row.now.stores ≡ 1 }
+    requires rom { IsInRom ROM state.old.flat (modes + 18) }
+    ensures value { Tries (IsRowWriting state.old.flat row.now modes) result state.old.flat state.new.flat
+        (quick_row state.old.flat row.now modes) }
+    ensures story { state.new.flat.story ≡ state.old.flat.story }
+{
+    let (loads, dest) = read::<A, ROM, 1, 1>(state, modes)?;
+    let sp = stack_pointer(state, loads.cursor.popped);
+    store_on(state, sp, dest, 4, loads.first, loads.cursor.at)?;
+    Ok(true)
 }
 
 /// Does the row of no operands that does nothing.
@@ -437,9 +456,10 @@ fn by_shape<A: Allocator + Clone, const ROM: bool>(
         }
         (0, _) => none(state, row, modes),
         (1, 0) => at_shape::<A, ROM, 1, 0>(state, row, modes),
-        (1, 1) if row.width == 4 && !row.store_first => {
-            at_shape::<A, ROM, 1, 1>(state, row, modes)
-        }
+        (1, 1) if row.width == 4 && !row.store_first => match row.class {
+            Class::Copy => copied::<A, ROM>(state, row, modes),
+            _ => at_shape::<A, ROM, 1, 1>(state, row, modes),
+        },
         (2, 0) => at_shape::<A, ROM, 2, 0>(state, row, modes),
         (2, 1) if row.class == Class::Calc => computed::<A, ROM>(state, row, modes),
         (2, 1) => at_shape::<A, ROM, 2, 1>(state, row, modes),

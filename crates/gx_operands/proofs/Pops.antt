@@ -15,14 +15,14 @@ use Rattle.gx_state.specs.Calls.{with_local}
 use Rattle.gx_state.specs.Flat.{FlatState, cut, frame_of, sp_of}
 use Rattle.gx_state.specs.Stores.{store_fault}
 use Rattle.gx_operands.specs.Instructions.{going_to}
-use Rattle.gx_operands.specs.Stores.{settled, stored_on, goes_to}
+use Rattle.gx_operands.specs.Stores.{settled, stored_on}
 
 cut_at_top : (f : FlatState) (sp : ℕ) → sp ≡ sp_of f → cut f sp ≡ f
 cut_at_top f sp top = rw top (ap (λ (bytes : List ℕ). record f { stack = record f.stack { bytes = bytes } })
     (take-length f.stack.bytes))
 
-pub gone_in_place : (f : FlatState) (sp pc : ℕ) → sp ≡ sp_of f → goes_to (cut f sp) pc ≡ Ok (going_to f pc, Went)
-gone_in_place f sp pc top = ap (λ (g : FlatState). Ok (going_to g pc, Went)) (cut_at_top f sp top)
+pub gone_in_place : (f : FlatState) (sp pc : ℕ) → sp ≡ sp_of f → going_to (cut f sp) pc ≡ going_to f pc
+gone_in_place f sp pc top = ap (λ (g : FlatState). going_to g pc) (cut_at_top f sp top)
 
 -- a store to a local by whether the frame has it
 by_local : (b : Bool) (f : FlatState) (s : FlatStack) (sp : ℕ)

@@ -46,9 +46,23 @@ shaped number class act loads stores = record {
   act = act;
 }
 
+shaped_by : (row : Row) (loads stores width : ℕ) (first : Bool) → row.loads ≡ loads → row.stores ≡ stores
+    → row.width ≡ width → row.store_first ≡ first
+    → row ≡ record {
+      number = row.number;
+      loads = loads;
+      stores = stores;
+      store_first = first;
+      width = width;
+      class = row.class;
+      act = row.act;
+    }
+shaped_by row loads stores width first a b c d = rw (← a, ← b, ← c, ← d) refl
+
 shaped_is : (row : Row) (loads stores : ℕ) → IsShort row loads stores
     → row ≡ shaped row.number row.class row.act loads stores
-shaped_is row loads stores short = rw (← short.loads, ← short.stores, ← short.width, ← short.in_order) refl
+shaped_is row loads stores short =
+    shaped_by row loads stores 4 false short.loads short.stores short.width short.in_order
 
 -- the operands, once the loads were read
 abbrev pub with_destination : FlatState → ℕ → ℕ → Loads → Result Operands Fault

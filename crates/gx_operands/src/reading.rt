@@ -2,7 +2,7 @@
 //!
 //! Nothing of it is kept in memory, so that a row that is done at once costs no more than its work. The numbers of
 //! loads and stores are known where it is compiled.
-ghost use Rattle.std.specs.Prelude.{◌≡◌, ◌+◌, ◌-◌, ◌*◌, ◌/◌, ◌<◌, ◌≤◌, ◌^◌, length, true, Ok, IfOk, IfErr, OnOk};
+ghost use Rattle.std.specs.Prelude.{◌≡◌, ◌+◌, ◌-◌, ◌*◌, ◌/◌, ◌<◌, ◌≤◌, ◌^◌, length, true, false, Ok, IfOk, IfErr, OnOk};
 ghost use Rattle.gx_words.specs.Constants.{ceiling};
 ghost use Rattle.gx_words.specs.Faults.{Reads};
 ghost use Rattle.gx_words.specs.declared.faults.Fault.TheVariants.{BadAddress};
@@ -92,6 +92,7 @@ fn destination_if<A: Allocator + Clone, const ROM: bool>(
     requires rom { IsInRom ROM state.now.flat (cursor.old.at + 4) }
     ensures value { Reads (λ dest. (dest, cursor.new)) result (destination_if is state.now.flat nibble cursor.old) }
     ensures popped { cursor.new.popped ≡ cursor.old.popped }
+    ensures nowhere { is ≡ false → IfOk result (λ dest. dest ≡ Dest.Nowhere) }
 {
     if is {
         destination::<A, ROM>(state, nibble, cursor)
@@ -165,6 +166,7 @@ pub fn read<A: Allocator + Clone, const ROM: bool, const LOADS: u32, const STORE
     ensures value { (row : ARow) → IsShort row LOADS STORES
         → Reads (λ r. operands_by LOADS STORES r.0 r.1) result (all_operands state.now.flat row modes) }
     ensures popped { IfOk result (λ r. HasValues state.now.flat r.0.cursor.popped) }
+    ensures nowhere { IfOk result (λ r. STORES ≡ 0 → r.1 ≡ Dest.Nowhere) }
 {
     let mut loads = read_loads::<A, ROM, LOADS, STORES>(state, modes)?;
     let dest = destination_if::<A, ROM>(state, STORES > 0, loads.mode, &mut loads.cursor)?;

@@ -7,8 +7,9 @@ ghost use Rattle.gx_state.specs.Flat.{cut, IsHeight};
 ghost use Rattle.gx_state.specs.Relations.{Works};
 ghost use Rattle.gx_state.specs.Replies.{IsDone};
 ghost use Rattle.gx_state.specs.Stores.{IsMemory};
+ghost use Rattle.gx_operands.specs.Instructions.{going_to};
 ghost use Rattle.gx_operands.specs.Plans.{instruction_of};
-ghost use Rattle.gx_operands.specs.Stores.{stored_on, stores, goes_to, goes};
+ghost use Rattle.gx_operands.specs.Stores.{stored_on, stores, goes};
 
 use crate::Plan;
 use crate::storing::settle;
@@ -48,7 +49,7 @@ pub fn store_on<A: Allocator + Clone>(
 #[tactic(auto, using(crate::proofs::Pops::none_popped))]
 pub fn go_on<A: Allocator + Clone>(state: &mut State<A>, sp: u32, pc: u32)
     requires { IsHeight state.old.flat sp }
-    ensures value { goes_to (cut state.old.flat sp) pc ≡ Ok (state.new.flat, Went) }
+    ensures value { state.new.flat ≡ going_to (cut state.old.flat sp) pc }
     ensures story { state.new.flat.story ≡ state.old.flat.story }
 {
     if sp != state.stack().size() {
