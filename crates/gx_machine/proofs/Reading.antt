@@ -21,7 +21,7 @@ use Rattle.gx_operands.specs.Instructions.{Operands, all_operands, operands, des
 use Rattle.gx_operands.specs.Short.{IsShort, operands_by, short_loads}
 use Rattle.gx_operands.specs.Stores.{stored_on}
 use Rattle.gx_operands.specs.Tries.{Tries}
-use Rattle.gx_operands.proofs.Short.{read, with_destination}
+use Rattle.gx_operands.proofs.Short.{read_fails, read_by}
 use Rattle.gx_machine.specs.Quick.{IsPlain, IsRowWriting, IsQuickWriting, quick_effect, quick_row, read_as}
 use Rattle.gx_machine.specs.Quick.{read_effect, IsReadWriting}
 
@@ -88,18 +88,14 @@ none_read f row modes loads stores there =
 pub no_loads : (f : FlatState) (row : Row) (modes : ℕ) (e : Fault) → IsShort row 2 1 → short_loads f 2 1 modes ≡ Err e
     → all_operands f row modes ≡ Err e
 no_loads f row modes e short fails =
-    read f row modes 2 1 (omega arith) (omega arith) (omega arith) short
-    ∙ ap (λ (r : Result Loads Fault). r >>= with_destination f 2 1) fails
+    read_fails f row modes 2 1 e (omega arith) (omega arith) (omega arith) short fails
 
 pub loads_read : (f : FlatState) (row : Row) (modes : ℕ) (l : Loads) (r : Result (Dest × Cursor) Fault)
     → IsShort row 2 1 → short_loads f 2 1 modes ≡ Ok l → destination f l.mode l.cursor ≡ r
     → all_operands f row modes
     ≡ (r >>= (λ (d : Dest × Cursor). Ok (operands_by 2 1 (record l { cursor = d.1 }) d.0)))
 loads_read f row modes l r short loads stores =
-    read f row modes 2 1 (omega arith) (omega arith) (omega arith) short
-    ∙ ap (λ (x : Result Loads Fault). x >>= with_destination f 2 1) loads
-    ∙ ap (λ (x : Result (Dest × Cursor) Fault).
-    x >>= (λ (d : Dest × Cursor). Ok (operands_by 2 1 (record l { cursor = d.1 }) d.0))) stores
+    read_by f row modes 2 1 l r (omega arith) (omega arith) (omega arith) short loads stores
 
 abbrev two : Loads → Dest → Cursor → Operands
 two l d p = operands_by 2 1 (record l { cursor = p }) d

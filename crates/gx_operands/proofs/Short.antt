@@ -65,7 +65,7 @@ shaped_is row loads stores short =
     shaped_by row loads stores 4 false short.loads short.stores short.width short.in_order
 
 -- the operands, once the loads were read
-abbrev pub with_destination : FlatState → ℕ → ℕ → Loads → Result Operands Fault
+abbrev with_destination : FlatState → ℕ → ℕ → Loads → Result Operands Fault
 with_destination f loads stores l = destination_if (nat_lt 0 stores) f l.mode l.cursor
     >>= (λ (d : Dest × Cursor). Ok (operands_by loads stores (record l { cursor = d.1 }) d.0))
 
@@ -87,6 +87,18 @@ low_store f modes p = ap (λ (at : ℕ). destination f (byte f.memory at % 16) p
 high_store : (f : FlatState) (modes : ℕ) (p : Cursor)
     → destination f (byte f.memory (modes + 0) / 16) p ≡ destination f (byte f.memory modes / 16) p
 high_store f modes p = ap (λ (at : ℕ). destination f (byte f.memory at / 16) p) (first_at modes)
+
+third_load : (f : FlatState) (modes : ℕ) (p : Cursor)
+    → load f 4 (byte f.memory (modes + 1) % 16) p ≡ load f 4 (byte f.memory (modes + 1) % 16) p
+third_load f modes p = refl
+
+third_store : (f : FlatState) (modes : ℕ) (p : Cursor)
+    → destination f (byte f.memory (modes + 1) % 16) p ≡ destination f (byte f.memory (modes + 1) % 16) p
+third_store f modes p = refl
+
+fourth_store : (f : FlatState) (modes : ℕ) (p : Cursor)
+    → destination f (byte f.memory (modes + 1) / 16) p ≡ destination f (byte f.memory (modes + 1) / 16) p
+fourth_store f modes p = refl
 
 abbrev begun : ℕ → ℕ → Operands
 begun modes count = record {
@@ -126,19 +138,19 @@ two_and_store : (f : FlatState) (number : ℕ) (class : Class) (act modes : ℕ)
 unfolding operands operand with_operand
 two_and_store f number class act modes =
     both _ _ _ _ _ _ (low_load f modes _) (λ a. both _ _ _ _ _ _ (high_load f modes _)
-    (λ b. last _ _ _ _ _ refl (λ d. refl)))
+    (λ b. last _ _ _ _ _ (third_store f modes _) (λ d. refl)))
 
 three : (f : FlatState) (number : ℕ) (class : Class) (act modes : ℕ) → ReadsShape f number class act modes 3 0
 unfolding operands operand with_operand
 three f number class act modes =
     both _ _ _ _ _ _ (low_load f modes _) (λ a. both _ _ _ _ _ _ (high_load f modes _)
-    (λ b. both _ _ _ _ _ _ refl (λ c. refl)))
+    (λ b. both _ _ _ _ _ _ (third_load f modes _) (λ c. refl)))
 
 three_and_store : (f : FlatState) (number : ℕ) (class : Class) (act modes : ℕ) → ReadsShape f number class act modes 3 1
 unfolding operands operand with_operand
 three_and_store f number class act modes =
     both _ _ _ _ _ _ (low_load f modes _) (λ a. both _ _ _ _ _ _ (high_load f modes _)
-    (λ b. both _ _ _ _ _ _ refl (λ c. last _ _ _ _ _ refl (λ d. refl))))
+    (λ b. both _ _ _ _ _ _ (third_load f modes _) (λ c. last _ _ _ _ _ (fourth_store f modes _) (λ d. refl))))
 
 shape : (loads stores : ℕ) → 1 ≤ loads + stores → loads ≤ 3 → stores ≤ 1 → (f : FlatState) (number : ℕ) (class : Class)
     (act modes : ℕ) → ReadsShape f number class act modes loads stores
@@ -155,7 +167,7 @@ shape (suc (suc (suc (suc loads)))) stores some few once f number class act mode
 shape loads (suc (suc stores)) some few once f number class act modes = absurd (omega arith)
 
 -- all of them
-pub read : (f : FlatState) (row : Row) (modes loads stores : ℕ) → 1 ≤ loads + stores → loads ≤ 3 → stores ≤ 1
+read : (f : FlatState) (row : Row) (modes loads stores : ℕ) → 1 ≤ loads + stores → loads ≤ 3 → stores ≤ 1
     → IsShort row loads stores
     → all_operands f row modes ≡ (short_loads f loads stores modes >>= with_destination f loads stores)
 unfolding all_operands short_loads
@@ -163,3 +175,20 @@ read f row modes loads stores some few once short =
     ap (λ (r : Row). all_operands f r modes) (shaped_is row loads stores short)
     ∙ roomy (nat_le (modes + (loads + stores + 1) / 2) (length f.memory)) BadAddress _ _ _
     (shape loads stores some few once f row.number row.class row.act modes)
+
+pub read_fails : (f : FlatState) (row : Row) (modes loads stores : ℕ) (e : Fault) → 1 ≤ loads + stores → loads ≤ 3
+    → stores ≤ 1 → IsShort row loads stores → short_loads f loads stores modes ≡ Err e → all_operands f row modes ≡ Err e
+read_fails f row modes loads stores e some few once short fails =
+    read f row modes loads stores some few once short
+    ∙ ap (λ (r : Result Loads Fault). r >>= with_destination f loads stores) fails
+
+pub read_by : (f : FlatState) (row : Row) (modes loads stores : ℕ) (l : Loads) (r : Result (Dest × Cursor) Fault)
+    → 1 ≤ loads + stores → loads ≤ 3 → stores ≤ 1 → IsShort row loads stores
+    → short_loads f loads stores modes ≡ Ok l → destination_if (nat_lt 0 stores) f l.mode l.cursor ≡ r
+    → all_operands f row modes
+    ≡ (r >>= (λ (d : Dest × Cursor). Ok (operands_by loads stores (record l { cursor = d.1 }) d.0)))
+read_by f row modes loads stores l r some few once short given is =
+    read f row modes loads stores some few once short
+    ∙ ap (λ (x : Result Loads Fault). x >>= with_destination f loads stores) given
+    ∙ ap (λ (x : Result (Dest × Cursor) Fault).
+    x >>= (λ (d : Dest × Cursor). Ok (operands_by loads stores (record l { cursor = d.1 }) d.0))) is

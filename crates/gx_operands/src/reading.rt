@@ -153,7 +153,7 @@ pub fn read_loads<A: Allocator + Clone, const ROM: bool, const LOADS: u32, const
 
 /// The operands of a short row: what it loads, and where its result goes.
 #[inline(always)]
-#[tactic(auto, using(crate::proofs::Short::read))]
+#[tactic(auto)]
 pub fn read<A: Allocator + Clone, const ROM: bool, const LOADS: u32, const STORES: u32>(
     state: &State<A>,
     modes: u32,
