@@ -64,6 +64,20 @@ row_read f number modes sp l row read operands is =
 
 pub ruleset reads = (row_read, short_row)
 
+pub prints_by : (f : FlatState) (number value sp next : ℕ) (does : FlatState × Effect)
+    → instruction f ≡ Ok (printing_by number value sp next)
+    → print.row_effect f (printing_by number value sp next) ≡ Ok does → IsPrintingRow f sp next does
+prints_by f number value sp next does reads prints =
+    record { number = number; value = value; reads = reads; prints = prints }
+
+pub prints_any : (f : FlatState) (number value sp next : ℕ) (does : FlatState × Effect)
+    → instruction f ≡ Ok (printing_by number value sp next)
+    → print.row_effect f (printing_by number value sp next) ≡ Ok does → PrintsRow f does
+prints_any f number value sp next does reads prints =
+    (sp, (next, prints_by f number value sp next does reads prints))
+
+pub ruleset prints = (prints_by, prints_any)
+
 -- ---- its step
 
 pub row_steps : (f : FlatState) (does : FlatState × Effect) (sp next : ℕ) → IsPrintingRow f sp next does

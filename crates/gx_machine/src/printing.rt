@@ -2,7 +2,7 @@
 //!
 //! What is done here goes on and asks nothing. Where the next step isn't one of these, nothing has changed, and it is
 //! to be made by `rows`: a character to be put, one that the filter is called with, and every fault.
-ghost use Rattle.std.specs.Prelude.{◌≡◌, ◌≢◌, ◌↔◌, ◌<◌, ◌≤◌, ◌+◌, true, false, Ok, IfSome, IsTrue, Some};
+ghost use Rattle.std.specs.Prelude.{◌≡◌, ◌≢◌, ◌↔◌, ◌<◌, ◌+◌, true, false, Ok, Some, IfSome};
 ghost use Rattle.gx_words.specs.Constants.{glk_system};
 ghost use Rattle.gx_rows.specs.Table.{row_of};
 ghost use Rattle.gx_state.specs.declared.effects.Effect.TheVariants.{Went, Put};
@@ -118,6 +118,7 @@ fn row_that_prints<A: Allocator + Clone>(state: &State<A>, asks: bool) -> Option
 
 /// Does the instruction at PC where it begins to print a string or number, drops a character, or calls the filter with
 /// one.
+#[tactic(auto, using(crate::proofs::Starts::prints))]
 pub(crate) fn start<A: Allocator + Clone>(state: &mut State<A>) -> bool
     requires { 0 < sp_of state.old.flat }
     ensures value { result ≡ true → PrintsRow state.old.flat (state.new.flat, Went) }
@@ -136,6 +137,7 @@ pub(crate) fn start<A: Allocator + Clone>(state: &mut State<A>) -> bool
 /// The character that the instruction at PC asks to be put under Glk, where that is streamchar or streamunichar, with
 /// the stack pointer that its pops leave and the address behind it; None of any other instruction.
 #[inline(never)]
+#[tactic(auto, using(crate::proofs::Starts::prints))]
 pub(crate) fn streamed<A: Allocator + Clone>(state: &State<A>) -> Option<(u32, u32, u32)>
     requires { 0 < sp_of state.now.flat }
     ensures value { IfSome result (λ r. IsPrintingRow state.now.flat r.1 r.2 (state.now.flat, Put r.0)) }
