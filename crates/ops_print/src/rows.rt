@@ -1,5 +1,5 @@
 //! The rows of the class Print (Glulx 3.1.2, "Output"), by their numbers and the values that they were read into.
-ghost use Rattle.std.specs.Prelude.{◌≡◌, ℕ, Ok, IfOk, IfSome};
+ghost use Rattle.std.specs.Prelude.{◌≡◌, ℕ, false, Ok, IfOk, IfSome};
 ghost use Rattle.gx_state.specs.declared.effects.Effect.TheVariants.{Put};
 ghost use Rattle.gx_state.specs.Flat.{IsHeight};
 ghost use Rattle.gx_state.specs.Relations.{Goes};
