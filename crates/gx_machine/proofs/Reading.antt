@@ -7,9 +7,11 @@ use Rattle.gx_words.specs.declared.faults.Fault.TheVariants.{NoMemory, Divide}
 use Rattle.gx_words.specs.Results.{◌>>=◌}
 use Rattle.gx_rows.specs.declared.instructions.Class.TheVariants as class
 use Rattle.gx_rows.specs.declared.instructions.Row.{Row}
+use Rattle.gx_rows.specs.Numbers as numbers
 use Rattle.ops_calc.specs.Arithmetic.{calc}
 use Rattle.ops_flow.specs.FlowRows.{computes}
-use Rattle.ops_memory.specs.MemoryRows.{copy}
+use Rattle.ops_memory.specs.MemoryRows.{copy, memory}
+use Rattle.ops_memory.specs.Space.{getmemsize}
 use Rattle.gx_state.specs.declared.effects.Effect.{Effect}
 use Rattle.gx_state.specs.Stores.{IsMemory}
 use Rattle.gx_state.specs.declared.modes.Dest.{Dest}
@@ -66,6 +68,14 @@ pub copy_done : (f g : FlatState) (row : Row) (a sp : ℕ) (d : Dest) (next : �
     → Tries {S = FlatState} (IsReadWriting f row (a ∷ []) sp d next) r f g (read_effect f row (a ∷ []) sp d next)
 unfolding copy
 copy_done f g row a sp d next r is width t = rw (is, width) t
+
+-- the size of memory is stored
+pub size_done : (f g : FlatState) (row : Row) (sp : ℕ) (d : Dest) (next size : ℕ) (r : Result Bool Fault)
+    → row.class ≡ class.Memory → row.number ≡ numbers.getmemsize → size ≡ length f.memory
+    → Tries {S = FlatState} (IsMemory d) r f g (stored_on f sp d 4 size next)
+    → Tries {S = FlatState} (IsReadWriting f row [] sp d next) r f g (read_effect f row [] sp d next)
+unfolding memory getmemsize
+size_done f g row sp d next size r class number is t = rw (class, number, ← is) t
 
 -- no operands
 pub none_read : (f : FlatState) (row : Row) (modes : ℕ) → row.loads ≡ 0 → row.stores ≡ 0 → modes ≤ length f.memory

@@ -4,10 +4,12 @@ use Rattle.std.proofs.Common.{◌≡◌, ◌≤◌, ◌-◌, ◌*◌, ℕ, suc, 
 use Rattle.std.proofs.Common.{refl, ap, subst, sym, ◌∙◌}
 use Rattle.gx_words.specs.declared.faults.Fault.{Fault}
 use Rattle.gx_words.specs.Results.{◌>>=◌}
+use Rattle.gx_rows.specs.declared.instructions.Row.{Row}
 use Rattle.gx_rows.specs.Numbers as numbers
 use Rattle.gx_rows.specs.Table.{table, row_of}
 use Rattle.gx_state.specs.declared.effects.Effect.{Effect}
 use Rattle.gx_state.specs.declared.effects.Effect.TheVariants.{Put}
+use Rattle.gx_state.specs.declared.modes.Dest.{Dest}
 use Rattle.gx_state.specs.declared.modes.Dest.TheVariants.{Nowhere}
 use Rattle.gx_state.specs.declared.modes.Mode.TheVariants.{Running}
 use Rattle.gx_state.specs.Flat.{FlatState, IsHeight, sp_of}
@@ -32,19 +34,19 @@ use Rattle.gx_machine.proofs.Passing.{joined}
 use Rattle.gx_machine.proofs.Tries.{instruction_is}
 
 -- the rows of the class
-char_row : row_of numbers.streamchar ≡ Some (printing_row numbers.streamchar)
+pub char_row : row_of numbers.streamchar ≡ Some (printing_row numbers.streamchar)
 unfolding row_of table
 char_row = refl
 
-number_row : row_of numbers.streamnum ≡ Some (printing_row numbers.streamnum)
+pub number_row : row_of numbers.streamnum ≡ Some (printing_row numbers.streamnum)
 unfolding row_of table
 number_row = refl
 
-string_row : row_of numbers.streamstr ≡ Some (printing_row numbers.streamstr)
+pub string_row : row_of numbers.streamstr ≡ Some (printing_row numbers.streamstr)
 unfolding row_of table
 string_row = refl
 
-unichar_row : row_of numbers.streamunichar ≡ Some (printing_row numbers.streamunichar)
+pub unichar_row : row_of numbers.streamunichar ≡ Some (printing_row numbers.streamunichar)
 unfolding row_of table
 unichar_row = refl
 
@@ -53,16 +55,18 @@ pub ruleset rows = (char_row, number_row, string_row, unichar_row)
 pub short_row : (number : ℕ) → IsShort (printing_row number) 1 0
 short_row number = record { loads = refl; stores = refl; width = refl; in_order = refl }
 
-pub row_read : (f : FlatState) (number modes sp : ℕ) (l : Loads) → row_of number ≡ Some (printing_row number)
-    → opcode f ≡ Ok (number, modes) → all_operands f (printing_row number) modes ≡ Ok (operands_by 1 0 l Nowhere)
+pub row_read : (f : FlatState) (number modes sp : ℕ) (l : Loads) (d : Dest) → row_of number ≡ Some (printing_row number)
+    → opcode f ≡ Ok (number, modes)
+    → ((row : Row) → IsShort row 1 0 → all_operands f row modes ≡ Ok (operands_by 1 0 l d)) → d ≡ Nowhere
     → sp ≡ sp_of f - 4 * l.cursor.popped
     → instruction f ≡ Ok (printing_by number l.first sp l.cursor.at)
-row_read f number modes sp l row read operands is =
+row_read f number modes sp l d row read operands nowhere is =
     instruction_is f number modes (printing_row number) read (rw row refl)
-    ∙ ap (λ (r : Result Operands Fault). r >>= (λ (o : Operands). Ok (read_as f (printing_row number) o))) operands
-    ∙ rw is refl
+    ∙ ap (λ (r : Result Operands Fault). r >>= (λ (o : Operands). Ok (read_as f (printing_row number) o)))
+    (operands (printing_row number) (short_row number))
+    ∙ rw (nowhere, is) refl
 
-pub ruleset reads = (row_read, short_row)
+pub ruleset reads = (row_read)
 
 pub prints_by : (f : FlatState) (number value sp next : ℕ) (does : FlatState × Effect)
     → instruction f ≡ Ok (printing_by number value sp next)
@@ -74,7 +78,7 @@ pub prints_any : (f : FlatState) (number value sp next : ℕ) (does : FlatState 
     → instruction f ≡ Ok (printing_by number value sp next)
     → print.row_effect f (printing_by number value sp next) ≡ Ok does → PrintsRow f does
 prints_any f number value sp next does reads prints =
-    (sp, (next, prints_by f number value sp next does reads prints))
+    (sp, next, prints_by f number value sp next does reads prints)
 
 pub ruleset prints = (prints_by, prints_any)
 

@@ -63,6 +63,12 @@ fn is_printing(number: u32) -> bool
     matches!(number, STREAMCHAR | STREAMNUM | STREAMSTR | STREAMUNICHAR)
 }
 
+/// Whether the instruction of a number may ask for a character to be put.
+#[inline(always)]
+fn asks_at<A: Allocator + Clone>(state: &State<A>, number: u32) -> bool {
+    (number == STREAMCHAR || number == STREAMUNICHAR) && !is_silent(state)
+}
+
 /// An instruction that prints: its number, the value that it loads, the stack pointer that its pops leave, and the
 /// address behind it.
 #[derive(Clone, Copy)]
@@ -87,16 +93,20 @@ fn row_at_pc<A: Allocator + Clone, const ROM: bool>(
     ensures height { IfSome result (λ row. IsHeight state.now.flat row.sp) }
 {
     let mut modes = 0;
-    let number = opcode::<A, ROM>(state, &mut modes).ok()?;
-    let is_character = number == STREAMCHAR || number == STREAMUNICHAR;
-    if !is_printing(number) || asks != (is_character && !is_silent(state)) {
+    let Ok(number) = opcode::<A, ROM>(state, &mut modes) else {
+        return None;
+    };
+    if !is_printing(number) || asks != asks_at(state, number) {
         return None;
     }
-    let (loads, _) = read::<A, ROM, 1, 0>(state, modes).ok()?;
+    let Ok((loads, _)) = read::<A, ROM, 1, 0>(state, modes) else {
+        return None;
+    };
+    let sp = stack_pointer(state, loads.cursor.popped);
     Some(PrintingRow {
         number,
         value: loads.first,
-        sp: stack_pointer(state, loads.cursor.popped),
+        sp,
         next: loads.cursor.at,
     })
 }

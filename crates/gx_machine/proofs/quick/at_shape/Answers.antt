@@ -12,7 +12,7 @@ returns-in_err-loads-clause-value g c =
 
 pub returns-clause-value : goal.returns-clause-value
 returns-clause-value g c =
-    row_done _ _ _ _ _ _ _ _ _ _
+    row_done _ _ _ _ _ _ _ c.in_ok-loads.loads _ _
     (c.in_ok-loads.ensures.value c.args.row.now
     (short_by _ _ _ c.requires.plain c.requires.loads c.requires.stores))
     c.stack_pointer-sp.ensures.value c.by_values.ensures.value
