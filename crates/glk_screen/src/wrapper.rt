@@ -58,6 +58,7 @@ impl Wrapper {
     }
 
     /// Takes a character, and adds to the text what is let go.
+    #[inline(always)]
     #[tactic(auto, using(crate::proofs::Flowing::places), unfolding(crate::specs::Wrapper::wrapped_char))]
     pub fn put(&mut self, text: &mut String, c: char) -> Result<(), AllocError>
         ensures new { OnOk result (self.new ≡ (wrapped_char self.old c).1) }
@@ -65,13 +66,27 @@ impl Wrapper {
             (string_bytes text.new ≡ string_bytes text.old ++ encode_utf8_all (wrapped_char self.old c).0) }
     {
         let columns = width_of(u32::from(c));
-        let fits = self.has_room(columns);
-        if u32::from(c) == LINE_FEED || u32::from(c) == BLANK && !fits {
+        if u32::from(c) != LINE_FEED && self.has_room(columns) {
+            return self.hold(c, columns);
+        }
+        self.put_apart(text, c, columns)
+    }
+
+    /// Takes a line feed, or a character that doesn't fit.
+    #[cold]
+    #[inline(never)]
+    #[tactic(auto, using(crate::proofs::Flowing::places), unfolding(crate::specs::Wrapper::wrapped_char))]
+    fn put_apart(&mut self, text: &mut String, c: char, columns: u32) -> Result<(), AllocError>
+        requires columns { columns ≡ width_of c }
+        requires apart { c ≡ 0x0A ⊎ (fits self.old c ≡ false) }
+        ensures new { OnOk result (self.new ≡ (wrapped_char self.old c).1) }
+        ensures text { OnOk result
+            (string_bytes text.new ≡ string_bytes text.old ++ encode_utf8_all (wrapped_char self.old c).0) }
+    {
+        if u32::from(c) == LINE_FEED || u32::from(c) == BLANK {
             return self.end_row(text);
         }
-        if !fits {
-            self.cut(text)?;
-        }
+        self.cut(text)?;
         self.place(text, c, columns)
     }
 

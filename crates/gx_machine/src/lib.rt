@@ -3,7 +3,6 @@
 //! - `machine` has the machine, its step and the answers to what a step asks.
 //! - `rows` does the row of an instruction, class by class.
 //! - `quick` reads and does the commonest instructions in one go, by the same definitions.
-//! - `quick_acts` has what it does once the operands are read.
 //! - `printing` has the quick steps of printing.
 //! - `engine` has the trait that a session runs on.
 //!
@@ -24,7 +23,6 @@ mod engine;
 mod machine;
 mod printing;
 mod quick;
-mod quick_acts;
 mod rows;
 
 pub use askings::Asking;

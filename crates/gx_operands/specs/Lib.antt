@@ -3,3 +3,5 @@ pub mod Plans
 pub mod Stores
 pub mod Arguments
 pub mod Code
+pub mod Short
+pub mod Tries

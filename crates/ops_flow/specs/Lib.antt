@@ -1,3 +1,4 @@
 pub mod FlowRows
 pub mod Writes
 pub mod Catches
+pub mod Values

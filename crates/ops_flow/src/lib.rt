@@ -3,6 +3,7 @@
 //!
 //! `act` does the row of a plan, by its definition of specs/Rows; after every fault the state is as
 //! before. Only the rows of specs/Writes may want memory, and only where they have no fault.
+//! What they do once their operands are read stands over values, for the machine too, which keeps these in registers.
 //! - `computing` has the rows of Calc.
 //! - `branches` has those of Branch, and the return from a function.
 //! - `calls` and `continuations` have those of Flow.
@@ -25,12 +26,14 @@ mod computing;
 mod continuations;
 mod values;
 
-pub use branches::deliver;
+pub use branches::{give_back, jump};
 use branches::{jumps, leave};
+pub use calls::{call_popping, call_with};
 use calls::{call, callf, tailcall};
+pub use computing::compute;
 use computing::computes;
 use continuations::{catch, throw};
-use gx_operands::{Plan, goes};
+use gx_operands::{Plan, go_on, goes};
 use gx_rows::{Class, by_row};
 use gx_state::{Effect, State};
 use gx_words::Fault;
@@ -44,8 +47,7 @@ fn goes_to<A: Allocator + Clone>(state: &mut State<A>, sp: u32, pc: u32) -> Effe
     ensures done { IsDone result }
     ensures story { state.new.flat.story ≡ state.old.flat.story }
 {
-    state.cut_stack(sp);
-    state.set_pc(pc);
+    go_on(state, sp, pc);
     Effect::Went
 }
 

@@ -29,9 +29,11 @@ mod ranges;
 mod searches;
 mod sizes;
 
-use arrays::{element, loads, puts};
+pub use arrays::{element, fetch};
+use arrays::{loads, stores_element};
+pub use bits::fetch_bit;
 use bits::{aloadbit, astorebit};
-use gx_operands::{Plan, settle};
+use gx_operands::{Plan, store_on};
 use gx_rows::{Class, by_row};
 use gx_state::{Effect, State};
 use gx_words::Fault;
@@ -50,8 +52,7 @@ fn copy<A: Allocator + Clone>(state: &mut State<A>, plan: &Plan) -> Result<Effec
     ensures done { IfOk result IsDone }
 {
     let width = u32::from(plan.row().width);
-    settle(state, plan.sp, &plan.dest, width, plan.load(0))?;
-    state.set_pc(plan.next);
+    store_on(state, plan.sp, plan.dest, width, plan.load(0), plan.next)?;
     Ok(Effect::Went)
 }
 
@@ -74,13 +75,13 @@ fn memory<A: Allocator + Clone>(
     ensures story { state.new.flat.story ≡ state.old.flat.story }
 {
     by_row!(Memory, plan.row().number;
-        ALOAD => loads(state, plan, 4, element(plan, 4)),
-        ALOADS => loads(state, plan, 2, element(plan, 2)),
-        ALOADB => loads(state, plan, 1, element(plan, 1)),
+        ALOAD => loads(state, plan, 4),
+        ALOADS => loads(state, plan, 2),
+        ALOADB => loads(state, plan, 1),
         ALOADBIT => aloadbit(state, plan),
-        ASTORE => puts(state, plan, 4, element(plan, 4), plan.load(2)),
-        ASTORES => puts(state, plan, 2, element(plan, 2), plan.load(2)),
-        ASTOREB => puts(state, plan, 1, element(plan, 1), plan.load(2)),
+        ASTORE => stores_element(state, plan, 4),
+        ASTORES => stores_element(state, plan, 2),
+        ASTOREB => stores_element(state, plan, 1),
         ASTOREBIT => astorebit(state, plan),
         GETMEMSIZE => getmemsize(state, plan),
         SETMEMSIZE => setmemsize(state, plan),

@@ -1,0 +1,18 @@
+-- the operands of a row of a shape
+use Rattle.std.proofs.lemmas.Result.{err_from_is_err_and}
+use Rattle.gx_machine.proofs.Reading.{short_by, row_fails, row_done}
+use Rattle.gx_machine.proofs.quick.at_shape.Goals as goal
+
+pub returns-in_err-loads-clause-value : goal.returns-in_err-loads-clause-value
+returns-in_err-loads-clause-value g c =
+    let p = err_from_is_err_and c.from_residual.result c.from_residual.ensures.1 in
+    let e = c.in_err-loads.ensures.value c.args.row.now
+    (short_by _ _ _ c.requires.plain c.requires.loads c.requires.stores) in
+    rw (p.1, p.2) (row_fails _ _ _ c.in_err-loads.field-0.0 e.0 e.1)
+
+pub returns-clause-value : goal.returns-clause-value
+returns-clause-value g c =
+    row_done _ _ _ _ _ _ _ c.in_ok-loads.loads _ _
+    (c.in_ok-loads.ensures.value c.args.row.now
+    (short_by _ _ _ c.requires.plain c.requires.loads c.requires.stores))
+    c.stack_pointer-sp.ensures.value c.by_values.ensures.value
