@@ -24,7 +24,7 @@ use Rattle.glk_replies.specs.declared.Given.{Given}
 use Rattle.glk_replies.specs.declared.Given.TheVariants as given
 use Rattle.glk_replies.specs.Turns.{IsGivenFor}
 use Rattle.glk_streams.specs.Constants.{write_mode}
-use Rattle.glk_object_calls.specs.Streams.{stream_close, closing_by, stored_file, close}
+use Rattle.glk_object_calls.specs.Streams.{stream_close, closing_by, file_to_store, close}
 use Rattle.glk_object_calls.specs.References.{stream_open_file, open_with, mode_loads, file_name}
 use Rattle.glk_object_calls.specs.References.{fileref_create_by_prompt}
 use Rattle.glk_object_calls.specs.References.{fileref_delete_file, fileref_does_file_exist}
@@ -132,7 +132,7 @@ module _ (f : FlatState) (room : ℕ) where
   close_asks : (w : Scene) (args : List ℕ) (r : Said × Turn) → streams.has w.streams (arg args 0) ≡ true
       → stream_close w f room args ≡ Ok r → IsAsked r
   unfolding stream_close
-  close_asks w args r there is = closing_asks (stored_file w (arg args 0)) w args r there is
+  close_asks w args r there is = closing_asks (file_to_store w (arg args 0)) w args r there is
 
   prompt_asked : (w : Scene) (args text : List ℕ)
       → IsAsked ((waits w selectors.fileref_create_by_prompt args, text), turn.Prompt)

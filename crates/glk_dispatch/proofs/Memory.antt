@@ -548,7 +548,7 @@ close_takes w f room args r None some is =
 close_takes w f room args r (Some file) some is = absurd (grind (arith, some))
 
 pub closing_takes : (w : Scene) (f : FlatState) (room : ℕ) (args : List ℕ) (r : Said × Turn)
-    → (not (arg args 1 == 0) && not (is_some (stream.stored_file w (arg args 0)))) ≡ true
+    → (not (arg args 1 == 0) && not (is_some (stream.file_to_store w (arg args 0)))) ≡ true
     → stream.stream_close w f room args ≡ Ok r → takes_some w r ≡ true
 unfolding stream.stream_close
-closing_takes w f room args r some is = close_takes w f room args r (stream.stored_file w (arg args 0)) some is
+closing_takes w f room args r some is = close_takes w f room args r (stream.file_to_store w (arg args 0)) some is

@@ -10,7 +10,7 @@ use Rattle.gx_words.specs.Results.{◌>>=◌}
 use Rattle.gx_state.specs.Flat.{FlatState}
 use Rattle.glk_replies.specs.declared.Turn.{Turn}
 use Rattle.glk_world.specs.World.{Scene, FlatWorld, MakesCall, Outcome, arg}
-use Rattle.glk_dispatch.specs.declared.table.Class.{Class}
+use Rattle.glk_dispatch.specs.declared.table.ObjectClass.{ObjectClass}
 use Rattle.glk_dispatch.specs.declared.table.Selector.{Selector}
 use Rattle.glk_dispatch.specs.CallRows.{CallRow}
 use Rattle.glk_dispatch.specs.Table.{row_for, is_dropped, selector_fits}
@@ -74,14 +74,14 @@ other_named : (w : Scene) (row : Selector) (args : List ℕ) → looked_at w row
 unfolding looked_at
 other_named w row args ok = grind (arith, common_steps, nat_tests)
 
-is_named : (w : Scene) (class : Class) (id : ℕ) → named w class id ≡ Ok tt → (id == 0 || has_object w class id) ≡ true
+is_named : (w : Scene) (class : ObjectClass) (id : ℕ) → named w class id ≡ Ok tt → (id == 0 || has_object w class id) ≡ true
 is_named w class id ok = grind (arith, common_steps)
 
 or_named : (a b : Bool) → (a || b) ≡ true → (a ≡ true) ⊎ (b ≡ true)
 or_named true b h = inl refl
 or_named false b h = inr h
 
-zero_or : (w : Scene) (class : Class) (id : ℕ) → named w class id ≡ Ok tt → IsNamed w class id
+zero_or : (w : Scene) (class : ObjectClass) (id : ℕ) → named w class id ≡ Ok tt → IsNamed w class id
 zero_or w class id ok =
     elim (or_named (id == 0) (has_object w class id) (is_named w class id ok)) as
     (λ _. (id ≡ 0) ⊎ (has_object w class id ≡ true)) [
@@ -90,7 +90,7 @@ zero_or w class id ok =
     ]
 
 -- the first argument of a row that needs it isn't 0
-first_there : (needs_first : Bool) (w : Scene) (class : Class) (id : ℕ) → IsNamed w class id
+first_there : (needs_first : Bool) (w : Scene) (class : ObjectClass) (id : ℕ) → IsNamed w class id
     → (needs_first && id == 0) ≡ false → IsFirst needs_first w class id
 first_there true w class id (inl none) some = absurd (grind (arith, nat_tests, some, none))
 first_there true w class id (inr there) some = there

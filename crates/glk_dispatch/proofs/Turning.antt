@@ -20,10 +20,10 @@ use Rattle.glk_world.specs.World.{FlatWorld, MakesCall, Outcome, after, on_world
 use Rattle.glk_replies.specs.Numbers as selectors
 use Rattle.glk_replies.specs.TextNumbers as texts
 use Rattle.glk_replies.specs.declared.Turn.TheVariants.{Answer}
-use Rattle.glk_object_calls.specs.Streams.{stream_close, stored_file}
+use Rattle.glk_object_calls.specs.Streams.{stream_close, file_to_store}
 use Rattle.glk_object_calls.specs.References.{fileref_create_by_prompt, fileref_delete_file, fileref_does_file_exist}
 use Rattle.glk_event_calls.specs.Events.{select}
-use Rattle.glk_dispatch.specs.declared.table.Class.TheVariants.{Stream, Reference}
+use Rattle.glk_dispatch.specs.declared.table.ObjectClass.TheVariants.{Stream, Reference}
 use Rattle.glk_object_calls.specs.Answers.{tells, replying, as_turn}
 use Rattle.glk_dispatch.specs.Calls.{answer_turn}
 use Rattle.glk_dispatch.specs.Ready.{wants_by, answer_by}
@@ -43,7 +43,7 @@ unfolding row_for window_calls stream_calls
 open_row = refl
 
 pub close_row : row_for selectors.stream_close
-    ≡ Some (wants (λ w f args. is_given 1 w f args && not (is_some (stored_file w (arg args 0))))
+    ≡ Some (wants (λ w f args. is_given 1 w f args && not (is_some (file_to_store w (arg args 0))))
     (giving 1 2 (on Stream (row_with selectors.stream_close 2 (turns stream_close)))))
 unfolding row_for window_calls stream_calls
 close_row = refl

@@ -14,8 +14,8 @@ use Rattle.glk_replies.specs.declared.Turn.{Turn}
 use Rattle.glk_object_calls.specs.Answers.{tells}
 use Rattle.glk_object_calls.specs.Streams.{stream_open_memory, memory_kind}
 use Rattle.glk_object_calls.specs.References.{stream_open_file, opening_grows}
-use Rattle.glk_dispatch.specs.declared.table.Class.{Class}
-use Rattle.glk_dispatch.specs.declared.table.Class.TheVariants.{Plain, Reference}
+use Rattle.glk_dispatch.specs.declared.table.ObjectClass.{ObjectClass}
+use Rattle.glk_dispatch.specs.declared.table.ObjectClass.TheVariants.{Plain, Reference}
 use Rattle.glk_dispatch.specs.declared.table.Selector.{Selector}
 
 -- What a call does, from the world, the machine's state, the room for what is pushed, and the arguments: it answers at
@@ -45,14 +45,14 @@ row_with number arguments does =
     } in
     record { looks = looks; does = does; wants = λ w f args. false }
 
-abbrev pub on : Class → CallRow → CallRow
+abbrev pub on : ObjectClass → CallRow → CallRow
 on class r = record r { looks = record r.looks { first = class; needs_first = true } }
 
-abbrev pub maybe_on : Class → CallRow → CallRow
+abbrev pub maybe_on : ObjectClass → CallRow → CallRow
 maybe_on class r = record r { looks = record r.looks { first = class } }
 
 -- the argument at a place, counted from 0
-abbrev pub naming : Class → ℕ → CallRow → CallRow
+abbrev pub naming : ObjectClass → ℕ → CallRow → CallRow
 naming class place r = record r { looks = record r.looks { other = class; other_place = place } }
 
 -- so many references of so many words each, from the second argument on

@@ -18,8 +18,8 @@ use Rattle.glk_replies.specs.declared.Turn.{Turn}
 use Rattle.glk_replies.specs.declared.Turn.TheVariants.{Answer}
 use Rattle.glk_replies.specs.Parts.{give, give_each}
 use Rattle.glk_object_calls.specs.Answers.{tells, replying, as_turn}
-use Rattle.glk_dispatch.specs.declared.table.Class.{Class}
-use Rattle.glk_dispatch.specs.declared.table.Class.TheVariants.{Plain, Window, Stream, Reference}
+use Rattle.glk_dispatch.specs.declared.table.ObjectClass.{ObjectClass}
+use Rattle.glk_dispatch.specs.declared.table.ObjectClass.TheVariants.{Plain, Window, Stream, Reference}
 use Rattle.glk_dispatch.specs.declared.table.Selector.{Selector}
 use Rattle.glk_dispatch.specs.CallRows.{Doing, answers, turns}
 use Rattle.glk_dispatch.specs.Table.{row_for, is_dropped}
@@ -27,14 +27,14 @@ use Rattle.glk_dispatch.specs.Table.{row_for, is_dropped}
 -- ---- the looks at arguments
 
 -- an object of a class has this identifier
-abbrev pub has_object : Scene → Class → ℕ → Bool
+abbrev pub has_object : Scene → ObjectClass → ℕ → Bool
 has_object w Plain id = true
 has_object w Window id = is_window w.windows id
 has_object w Stream id = streams.has w.streams id
 has_object w Reference id = has_reference w id
 
 -- an argument that names an object is 0 or names one
-abbrev pub named : Scene → Class → ℕ → Result (Unit {0}) Fault
+abbrev pub named : Scene → ObjectClass → ℕ → Result (Unit {0}) Fault
 named w class id = if id == 0 || has_object w class id then Ok tt else Err BadGlk
 
 unfoldable pub looked_at : Scene → Selector → List ℕ → Result (Unit {0}) Fault

@@ -15,12 +15,12 @@ use Rattle.glk_object_calls.specs.Windows.{window_get_echo_stream, window_iterat
 use Rattle.glk_object_calls.specs.Windows.{window_get_parent, window_get_sibling, window_get_root, window_clear}
 use Rattle.glk_object_calls.specs.Windows.{window_get_stream, set_window}
 use Rattle.glk_object_calls.specs.Streams.{stream_iterate, stream_get_rock}
-use Rattle.glk_object_calls.specs.Streams.{stream_close, stored_file, stream_set_position, stream_get_position}
+use Rattle.glk_object_calls.specs.Streams.{stream_close, file_to_store, stream_set_position, stream_get_position}
 use Rattle.glk_object_calls.specs.Streams.{stream_set_current, stream_get_current}
 use Rattle.glk_object_calls.specs.References.{fileref_create_temp, fileref_create_by_name, fileref_create_by_prompt}
 use Rattle.glk_object_calls.specs.References.{fileref_create_from_fileref, fileref_destroy, fileref_iterate}
 use Rattle.glk_object_calls.specs.References.{fileref_get_rock, fileref_delete_file, fileref_does_file_exist}
-use Rattle.glk_dispatch.specs.declared.table.Class.TheVariants.{Window, Stream, Reference}
+use Rattle.glk_dispatch.specs.declared.table.ObjectClass.TheVariants.{Window, Stream, Reference}
 use Rattle.glk_dispatch.specs.CallRows.{CallRow, row_with, on, maybe_on, naming, giving, plain, looking, taking_turn, idles}
 use Rattle.glk_dispatch.specs.CallRows.{wants, is_given, opens_file, opens_memory, answers, turns}
 
@@ -71,7 +71,7 @@ stream_calls =
     on Stream (row_with selectors.stream_get_rock 1 (plain stream_get_rock)) ∷
     opens_file selectors.stream_open_file ∷
     opens_memory selectors.stream_open_memory false ∷
-    wants (λ w f args. is_given 1 w f args && not (is_some (stored_file w (arg args 0))))
+    wants (λ w f args. is_given 1 w f args && not (is_some (file_to_store w (arg args 0))))
     (giving 1 2 (on Stream (row_with selectors.stream_close 2 (turns stream_close)))) ∷
     on Stream (row_with selectors.stream_set_position 3 (plain stream_set_position)) ∷
     on Stream (row_with selectors.stream_get_position 1 (plain stream_get_position)) ∷

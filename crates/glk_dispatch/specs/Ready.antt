@@ -10,7 +10,7 @@ use Rattle.glk_replies.specs.Numbers as selectors
 use Rattle.glk_replies.specs.TextNumbers as texts
 use Rattle.glk_replies.specs.declared.Turn.{Turn}
 use Rattle.glk_object_calls.specs.Answers.{tells, as_turn}
-use Rattle.glk_dispatch.specs.declared.table.Class.{Class}
+use Rattle.glk_dispatch.specs.declared.table.ObjectClass.{ObjectClass}
 use Rattle.glk_dispatch.specs.declared.table.Selector.{Selector}
 use Rattle.glk_dispatch.specs.CallRows.{Doing, answers, turns, CallRow}
 use Rattle.glk_dispatch.specs.ObjectCalls.{window_calls, stream_calls}
@@ -18,15 +18,15 @@ use Rattle.glk_dispatch.specs.TextCalls.{text_calls, event_calls, unicode_calls}
 use Rattle.glk_dispatch.specs.Table.{row_in, is_dropped}
 use Rattle.glk_dispatch.specs.Calls.{has_object, looked_at, is_on_none, nothing, done, gives_nothing}
 
-abbrev pub IsObject : Scene → Class → ℕ → Type 0
+abbrev pub IsObject : Scene → ObjectClass → ℕ → Type 0
 IsObject w class id = has_object w class id ≡ true
 
 -- the object 0, or one that is there
-abbrev pub IsNamed : Scene → Class → ℕ → Type 0
+abbrev pub IsNamed : Scene → ObjectClass → ℕ → Type 0
 IsNamed w class id = (id ≡ 0) ⊎ IsObject w class id
 
 -- the first argument of a row that needs it isn't 0
-abbrev pub IsFirst : Bool → Scene → Class → ℕ → Type 0
+abbrev pub IsFirst : Bool → Scene → ObjectClass → ℕ → Type 0
 IsFirst true w class id = IsObject w class id
 IsFirst false w class id = IsNamed w class id
 

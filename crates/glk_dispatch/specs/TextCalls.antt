@@ -14,7 +14,7 @@ use Rattle.glk_text_calls.specs.Input.{get_char, get_line, get_buffer, get_buffe
 use Rattle.glk_text_calls.specs.Characters.{char_to_case, buffer_to_case, buffer_of}
 use Rattle.glk_event_calls.specs.Events.{may_ask, request_line_event, request_char_event, cancel_line_event}
 use Rattle.glk_event_calls.specs.Events.{cancel_char_event, select_poll, select}
-use Rattle.glk_dispatch.specs.declared.table.Class.TheVariants.{Window, Stream}
+use Rattle.glk_dispatch.specs.declared.table.ObjectClass.TheVariants.{Window, Stream}
 use Rattle.glk_dispatch.specs.CallRows.{CallRow, row_with, on, giving, plain, looking, idles, wants, is_given, opens_file}
 use Rattle.glk_dispatch.specs.CallRows.{opens_memory, answers, turns}
 

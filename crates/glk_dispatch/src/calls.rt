@@ -18,7 +18,7 @@ ghost use Rattle.glk_dispatch.specs.Memory.{is_left_out, TakesMemory};
 ghost use Rattle.glk_dispatch.specs.Ready.{done_by, wants_by, call_looked, wants_looked};
 
 use crate::doing::{answer_turn, do_call};
-use crate::table::{Class, Selector, dropped, row_of};
+use crate::table::{ObjectClass, Selector, dropped, row_of};
 use glk_replies::{Turn, give, give_each, reply};
 use glk_world::{World, arg};
 use gx_state::{Reply, State};
@@ -26,19 +26,19 @@ use gx_words::Fault;
 use std::alloc::Allocator;
 
 /// Whether an object of a class has this identifier.
-fn is_there(world: &World, class: Class, id: u32) -> bool
+fn is_there(world: &World, class: ObjectClass, id: u32) -> bool
     ensures { result ≡ has_object world.now.scene class id }
 {
     match class {
-        Class::Plain => true,
-        Class::Window => world.windows().entry(id).is_some(),
-        Class::Stream => world.streams().has(id),
-        Class::Reference => world.file_ref(id).is_some(),
+        ObjectClass::Plain => true,
+        ObjectClass::Window => world.windows().entry(id).is_some(),
+        ObjectClass::Stream => world.streams().has(id),
+        ObjectClass::Reference => world.file_ref(id).is_some(),
     }
 }
 
 /// Looks at an argument that names an object.
-fn named(world: &World, class: Class, id: u32) -> Result<(), Fault>
+fn named(world: &World, class: ObjectClass, id: u32) -> Result<(), Fault>
     ensures { Reads (λ _. tt) result (named world.now.scene class id) }
 {
     if id == 0 || is_there(world, class, id) {

@@ -12,7 +12,7 @@ use gx_rows::{Keyed, find_row};
 
 /// What an argument names.
 #[derive(Clone, Copy)]
-pub enum Class {
+pub enum ObjectClass {
     /// No object.
     Plain,
     Window,
@@ -27,11 +27,11 @@ pub struct Selector {
     /// How many arguments it needs.
     pub arguments: u8,
     /// What the first argument names.
-    pub first: Class,
+    pub first: ObjectClass,
     /// Whether the call does nothing where the first argument is 0.
     pub needs_first: bool,
     /// What another argument names, and which that is, counted from 0.
-    pub other: Class,
+    pub other: ObjectClass,
     pub other_place: u8,
     /// How many arguments from the second on are references that are given 0 where nothing is done, and the words of
     /// each.
@@ -66,8 +66,8 @@ macro_rules! rows {
 }
 
 macro_rules! class {
-    () => { Class::Plain };
-    ($class:ident) => { Class::$class };
+    () => { ObjectClass::Plain };
+    ($class:ident) => { ObjectClass::$class };
 }
 
 macro_rules! needs_first {

@@ -14,7 +14,7 @@ use Rattle.glk_replies.specs.Parts.{can_give_pair}
 use Rattle.glk_replies.specs.declared.Turn.{Turn}
 use Rattle.glk_replies.specs.declared.Turn.TheVariants.{Answer, Store}
 use Rattle.glk_object_calls.specs.Answers.{as_turn}
-use Rattle.glk_object_calls.specs.Streams.{stream_of, stored_file, close, closing_by, stream_close}
+use Rattle.glk_object_calls.specs.Streams.{stream_of, file_to_store, close, closing_by, stream_close}
 
 stored_none : (file : Option (List ℕ × List ℕ)) (w : Scene) (f : FlatState) (room : ℕ) (args : List ℕ)
     → is_some file ≡ false → closing_by file w f room args ≡ as_turn (close w f room args)
@@ -57,16 +57,16 @@ turns wants more old new outcome (Err e) into refused = (
 )
 
 pub closes_now : (old new : FlatWorld) (f : FlatState) (room : ℕ) (args : List ℕ) (result : Result Reply Fault)
-    → is_some (stored_file old.scene (arg args 0)) ≡ false
+    → is_some (file_to_store old.scene (arg args 0)) ≡ false
     → MakesCall (IsTrue (not (arg args 1 == 0))) result old new (close old.scene f room args)
-    → MakesCall (IsTrue (not (arg args 1 == 0) && not (is_some (stored_file old.scene (arg args 0)))))
+    → MakesCall (IsTrue (not (arg args 1 == 0) && not (is_some (file_to_store old.scene (arg args 0)))))
     (answering result)
     old new (stream_close old.scene f room args)
 unfolding stream_close
 closes_now old new f room args result none is =
-    rw (stored_none (stored_file old.scene (arg args 0)) old.scene f room args none) (turns _ _ old new
+    rw (stored_none (file_to_store old.scene (arg args 0)) old.scene f room args none) (turns _ _ old new
     (close old.scene f room args) result
-    (λ wanted. both (not (arg args 1 == 0)) (is_some (stored_file old.scene (arg args 0))) wanted none) is)
+    (λ wanted. both (not (arg args 1 == 0)) (is_some (file_to_store old.scene (arg args 0))) wanted none) is)
 
 kept : (writes : Bool) (found : Option (List ℕ × List ℕ)) (file : List ℕ × List ℕ)
     → is_some (if writes then found else None) ≡ true → found ≡ Some file → (if writes then found else None) ≡ Some file
@@ -74,7 +74,7 @@ kept true found file some is = is
 kept false found file some is = absurd (cc)
 
 pub stores : (old taken new : FlatWorld) (f : FlatState) (room id at : ℕ) (args : List ℕ) (file : List ℕ × List ℕ)
-    → id ≡ arg args 0 → at ≡ arg args 1 → is_some (stored_file old.scene id) ≡ true
+    → id ≡ arg args 0 → at ≡ arg args 1 → is_some (file_to_store old.scene id) ≡ true
     → streams.file_of old.scene.streams id ≡ Some file → can_give_pair f room at ≡ Ok tt
     → taken ≡ after old (silent (without_file old.scene id))
     → new ≡ after taken (silent (waits taken.scene selectors.stream_close args))

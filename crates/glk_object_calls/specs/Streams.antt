@@ -57,8 +57,8 @@ close w f room args =
     replying closed (give f room 0 (arg args 1) (counts w (arg args 0)))
 
 -- the name and the content of a file that is open for writing: it is stored before its stream is closed
-abbrev pub stored_file : Scene → ℕ → Option (List ℕ × List ℕ)
-stored_file w id = if one.writable (stream_of w id) then streams.file_of w.streams id else None
+abbrev pub file_to_store : Scene → ℕ → Option (List ℕ × List ℕ)
+file_to_store w id = if one.writable (stream_of w id) then streams.file_of w.streams id else None
 
 -- the file is taken out of its stream, which is closed once the file is stored
 abbrev pub closing_by : Option (List ℕ × List ℕ) → Scene → FlatState → ℕ → List ℕ → Outcome Turn
@@ -67,7 +67,7 @@ closing_by (Some file) w f room args = can_give_pair f room (arg args 1) >>= λ 
     Ok (silent (waits (without_file w (arg args 0)) selectors.stream_close args), Store file.0 file.1)
 
 unfoldable pub stream_close : Scene → FlatState → ℕ → List ℕ → Outcome Turn
-stream_close w f room args = closing_by (stored_file w (arg args 0)) w f room args
+stream_close w f room args = closing_by (file_to_store w (arg args 0)) w f room args
 
 -- ---- "Stream Positions"
 

@@ -10,7 +10,7 @@ ghost use Rattle.glk_world.specs.World.{after, silent, arg, MakesCall};
 ghost use Rattle.glk_world.specs.Calls.{is_identifier, without_stream};
 ghost use Rattle.glk_replies.specs.Turns.{IsTurnFor};
 ghost use Rattle.glk_object_calls.specs.Streams.{stream_of, stream_iterate, stream_get_rock, memory_kind};
-ghost use Rattle.glk_object_calls.specs.Streams.{stream_open_memory, close, stored_file, stream_close};
+ghost use Rattle.glk_object_calls.specs.Streams.{stream_open_memory, close, file_to_store, stream_close};
 ghost use Rattle.glk_object_calls.specs.Streams.{stream_set_position, stream_get_position, stream_set_current};
 ghost use Rattle.glk_object_calls.specs.Streams.{stream_get_current};
 
@@ -117,7 +117,7 @@ pub fn close<A: Allocator + Clone>(
 /// Whether a stream is a file that has to be stored.
 fn is_stored(world: &World, id: u32) -> bool
     requires { IsTrue (streams.has world.now.scene.streams id) }
-    ensures { result ≡ is_some (stored_file world.now.scene id) }
+    ensures { result ≡ is_some (file_to_store world.now.scene id) }
 {
     world.streams().writable(id) && world.streams().file(id).is_some()
 }
@@ -132,7 +132,7 @@ pub fn stream_close<A: Allocator + Clone>(
 ) -> Result<Turn, Fault>
     requires { IsTrue (streams.has world.old.scene.streams (arg args.now 0)) }
     ensures value { MakesCall
-        (IsTrue (not (arg args.now 1 == 0) && not (is_some (stored_file world.old.scene (arg args.now 0))))) result
+        (IsTrue (not (arg args.now 1 == 0) && not (is_some (file_to_store world.old.scene (arg args.now 0))))) result
         world.old world.new (stream_close world.old.scene state.now.flat room args.now) }
     ensures fits { IfOk result (IsTurnFor state.now.flat room) }
 {

@@ -1,4 +1,4 @@
-//! Saves as the bytes of a stream (Glulx 3.1.2, "Game State"; specs/Saves): they are put as characters, and got from
+//! Saves as the bytes of a stream (Glulx 3.1.2, "Game State"; specs/PuttingSaves): they are put as characters, and got from
 //! where the stream stands to its end.
 ghost use Rattle.std.specs.Prelude.{ℕ, ◌≡◌, ◌≢◌, ◌<◌, ◌≤◌, ◌^◌, ◌+◌, ◌⊎◌, List, [], length, take, drop, IfOk, IfSome};
 ghost use Rattle.std.specs.Prelude.{OnErr, IsTrue, Ok, Some, None};
