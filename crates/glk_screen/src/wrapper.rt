@@ -2,11 +2,12 @@
 //!
 //! Contracts see the columns of a row, those of the present row that were let go, and the characters that are held of
 //! it. What a character makes of them is `wrapped_char` of specs/Wrapper; `laws` has what holds of it.
-ghost use Rattle.std.specs.Prelude.{◌≡◌, ◌≢◌, ◌≤◌, ◌<◌, ◌+◌, ◌^◌, ◌++◌, ◌∷◌, ℕ, [], length, drop, OnOk, OnErr};
-ghost use Rattle.std.specs.Prelude.{string_bytes, Some, IsTrue};
+ghost use Rattle.std.specs.Prelude.{◌≡◌, ◌≢◌, ◌≤◌, ◌<◌, ◌+◌, ◌^◌, ◌++◌, ◌∷◌, ◌⊎◌, ℕ, [], length, drop, false};
+ghost use Rattle.std.specs.Prelude.{string_bytes, Some, IsTrue, OnOk, OnErr};
 ghost use Rattle.std.specs.Str.{encode_utf8_all};
 ghost use Rattle.glk_screen.specs.Wrapping.{width_of, drawn_columns, last_blank};
-ghost use Rattle.glk_screen.specs.Wrapper.{no_row, has_room, taken_by, row_ended, placed, cut, wrapped_char};
+ghost use Rattle.gx_words.specs.Constants.{line_feed};
+ghost use Rattle.glk_screen.specs.Wrapper.{no_row, has_room, taken_by, fits, row_ended, placed, cut, wrapped_char};
 ghost use Rattle.glk_screen.specs.Wrapper.{let_go, restarted};
 
 use crate::wrapping::width_of;
@@ -59,7 +60,7 @@ impl Wrapper {
 
     /// Takes a character, and adds to the text what is let go.
     #[inline(always)]
-    #[tactic(auto, using(crate::proofs::Flowing::places), unfolding(crate::specs::Wrapper::wrapped_char))]
+    #[tactic(auto, using(crate::proofs::Flowing::places), unfolding(crate::specs::Wrapper::wrapped_char, crate::specs::Wrapper::placed))]
     pub fn put(&mut self, text: &mut String, c: char) -> Result<(), AllocError>
         ensures new { OnOk result (self.new ≡ (wrapped_char self.old c).1) }
         ensures text { OnOk result
@@ -78,7 +79,7 @@ impl Wrapper {
     #[tactic(auto, using(crate::proofs::Flowing::places), unfolding(crate::specs::Wrapper::wrapped_char))]
     fn put_apart(&mut self, text: &mut String, c: char, columns: u32) -> Result<(), AllocError>
         requires columns { columns ≡ width_of c }
-        requires apart { c ≡ 0x0A ⊎ (fits self.old c ≡ false) }
+        requires apart { (c ≡ line_feed) ⊎ (fits self.old c ≡ false) }
         ensures new { OnOk result (self.new ≡ (wrapped_char self.old c).1) }
         ensures text { OnOk result
             (string_bytes text.new ≡ string_bytes text.old ++ encode_utf8_all (wrapped_char self.old c).0) }
