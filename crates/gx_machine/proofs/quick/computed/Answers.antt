@@ -37,7 +37,7 @@ returns-in_err-store_on-in-Some-clause-value g c =
     c.from_residual-in_err-store_on-in-Some.ensures.1 in
     let short = short_by _ _ _ c.requires.plain c.requires.loads c.requires.stores in
     rw (p.1, p.2) (calc_done c.args.state.now.flat c.store_on.new.state.flat _ _ _ _ c.in_ok-loads.loads _ _
-    (Err c.in_err-store_on-in-Some.field-0) c.requires.class short c.in_ok-loads.ensures.value
+    (Err c.in_err-store_on-in-Some.field-0.0) c.requires.class short c.in_ok-loads.ensures.value
     (sym c.in-Some.ensures) c.in_ok-dest-in-Some.ensures.value c.stack_pointer-sp.ensures.value
     c.in_err-store_on-in-Some.ensures.value)
 

@@ -16,10 +16,10 @@ returns-in_err-store_on-clause-value g c =
     let p = err_from_is_err_and c.from_residual-in_err-store_on.result c.from_residual-in_err-store_on.ensures.1 in
     let short = short_by _ _ _ c.requires.plain c.requires.loads c.requires.stores in
     rw (p.1, p.2) (row_done c.args.state.now.flat c.store_on.new.state.flat c.args.row.now c.args.modes 1 1
-    c.stack_pointer-sp.result c.in_ok-loads.loads c.in_ok-loads.dest (Err c.in_err-store_on.field-0)
+    c.stack_pointer-sp.result c.in_ok-loads.loads c.in_ok-loads.dest (Err c.in_err-store_on.field-0.0)
     (c.in_ok-loads.ensures.value c.args.row.now short) c.stack_pointer-sp.ensures.value
     (copy_done c.args.state.now.flat c.store_on.new.state.flat c.args.row.now c.in_ok-loads.loads.first
-    c.stack_pointer-sp.result c.in_ok-loads.dest c.in_ok-loads.loads.cursor.at (Err c.in_err-store_on.field-0)
+    c.stack_pointer-sp.result c.in_ok-loads.dest c.in_ok-loads.loads.cursor.at (Err c.in_err-store_on.field-0.0)
     c.requires.class c.requires.plain.width c.in_err-store_on.ensures.value))
 
 pub returns-clause-value : goal.returns-clause-value
