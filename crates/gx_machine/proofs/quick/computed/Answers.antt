@@ -1,5 +1,5 @@
 -- the operands of arithmetic on two, read in order
-use Rattle.std.proofs.Common.{Ok, true, refl, sym}
+use Rattle.std.proofs.Common.{Ok, Err, true, refl, sym}
 use Rattle.std.proofs.lemmas.Result.{err_from_is_err_and}
 use Rattle.gx_machine.proofs.Reading.{short_by, row_fails, no_loads, loads_read, calc_done, no_quotient_row}
 use Rattle.gx_machine.proofs.quick.computed.Goals as goal
@@ -36,7 +36,8 @@ returns-in_err-store_on-in-Some-clause-value g c =
     let p = err_from_is_err_and c.from_residual-in_err-store_on-in-Some.result
     c.from_residual-in_err-store_on-in-Some.ensures.1 in
     let short = short_by _ _ _ c.requires.plain c.requires.loads c.requires.stores in
-    rw (p.1, p.2) (calc_done _ _ _ _ _ _ c.in_ok-loads.loads _ _ _ c.requires.class short c.in_ok-loads.ensures.value
+    rw (p.1, p.2) (calc_done c.args.state.now.flat c.store_on.new.state.flat _ _ _ _ c.in_ok-loads.loads _ _
+    (Err c.in_err-store_on-in-Some.field-0.0) c.requires.class short c.in_ok-loads.ensures.value
     (sym c.in-Some.ensures) c.in_ok-dest-in-Some.ensures.value c.stack_pointer-sp.ensures.value
     c.in_err-store_on-in-Some.ensures.value)
 
