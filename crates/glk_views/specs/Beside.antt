@@ -1,0 +1,44 @@
+-- What is said in a view that wraps, beside what is said in the view that doesn't.
+use Rattle.std.specs.Prelude.{◌≡◌, ℕ, Bool, true, false, List, Result, Ok, Err}
+use Rattle.std.specs.Str.{encode_utf8_all}
+use Rattle.glk_screen.specs.Wrapper.{FlatWrapper, no_row}
+use Rattle.glk_world.specs.declared.views.View.{View}
+use Rattle.glk_world.specs.declared.views.View.TheVariants as view
+use Rattle.glk_world.specs.World.{Scene, Said, Outcome}
+use Rattle.glk_world.specs.Putting.{put_chars}
+use Rattle.glk_views.specs.Coming.{Part, as_it_comes, wrapped}
+
+-- the views with rows of grids, and those without
+abbrev pub wrapping_view : Bool → View
+wrapping_view true = view.WrappedRows
+wrapping_view false = view.WrappedPlain
+
+abbrev pub plain_view : Bool → View
+plain_view true = view.Rows
+plain_view false = view.Plain
+
+-- a scene in a view that wraps, with a present row, and in the one that doesn't, where no row is used
+abbrev pub in_wrapping : Bool → FlatWrapper → Scene → Scene
+in_wrapping rows r w = record w { view = wrapping_view rows; row = r }
+
+abbrev pub in_plain : Bool → ℕ → Scene → Scene
+in_plain rows limit w = record w { view = plain_view rows; row = no_row limit }
+
+-- What is said in a view that wraps, from a row on, beside what is said in the other: the scenes are the same but for
+-- view and row, and the texts are those of the same parts.
+pub record SaysBeside (rows : Bool) (limit : ℕ) (r : FlatWrapper) (wrapping plain : Said) : Type 0 where
+  pub scene : Scene
+  pub parts : List Part
+  pub wraps : wrapping ≡ (in_wrapping rows (wrapped r parts).1 scene, encode_utf8_all (wrapped r parts).0)
+  pub comes : plain ≡ (in_plain rows limit scene, encode_utf8_all (as_it_comes parts))
+
+-- and the same answer, or the same fault
+abbrev pub ComesBeside : {X : Type 0} → Bool → ℕ → FlatWrapper → Outcome X → Outcome X → Type 0
+ComesBeside rows limit r (Ok a) (Ok b) = SaysBeside rows limit r a.0 b.0 × (a.1 ≡ b.1)
+ComesBeside rows limit r (Err e) (Err f) = e ≡ f
+ComesBeside rows limit r a b = ⊥
+
+abbrev pub CallsBeside : Type 0
+CallsBeside =
+    (rows : Bool) (limit : ℕ) (r : FlatWrapper) (w : Scene) (stream : ℕ) (cs : List ℕ)
+    → SaysBeside rows limit r (put_chars (in_wrapping rows r w) stream cs) (put_chars (in_plain rows limit w) stream cs)
