@@ -50,5 +50,3 @@ module _ (rows : Bool) (limit : ℕ) where
       joined rows limit (λ more. put_chars more stream cs) (λ more. put_chars more stream cs)
       (along_says (length w.streams) r w stream c) (λ r' v. chars_say r' v stream cs)
 
-pub calls_beside : CallsBeside
-calls_beside rows limit r w stream cs = chars_say rows limit r w stream cs

@@ -142,7 +142,7 @@ char_says true limit r w c =
 char_says false limit r w c =
     one_part false limit r (record w { fresh = c == line_feed }) (comes c) (encode_utf8_all (wrapped_char r c).0) (encode_utf8 c) refl (append-nil (encode_utf8 c))
 
-line_bytes : (cs : List ℕ) → encode_utf8_all (cs ++ line_feed ∷ []) ≡ encode_utf8_all cs ++ line_feed ∷ []
+pub line_bytes : (cs : List ℕ) → encode_utf8_all (cs ++ line_feed ∷ []) ≡ encode_utf8_all cs ++ line_feed ∷ []
 unfolding encode_utf8
 line_bytes cs = enc_append cs (line_feed ∷ [])
 

@@ -6,6 +6,7 @@ use Rattle.glk_world.specs.declared.views.View.{View}
 use Rattle.glk_world.specs.declared.views.View.TheVariants as view
 use Rattle.glk_world.specs.World.{Scene, Said, Outcome}
 use Rattle.glk_world.specs.Putting.{put_chars}
+use Rattle.glk_world.specs.Shown.{show_grids}
 use Rattle.glk_views.specs.Coming.{Part, as_it_comes, wrapped}
 
 -- the views with rows of grids, and those without
@@ -42,3 +43,4 @@ abbrev pub CallsBeside : Type 0
 CallsBeside =
     (rows : Bool) (limit : ℕ) (r : FlatWrapper) (w : Scene) (stream : ℕ) (cs : List ℕ)
     → SaysBeside rows limit r (put_chars (in_wrapping rows r w) stream cs) (put_chars (in_plain rows limit w) stream cs)
+    × SaysBeside rows limit r (show_grids (in_wrapping rows r w)) (show_grids (in_plain rows limit w))
