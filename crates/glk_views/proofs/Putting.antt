@@ -8,7 +8,7 @@ use Rattle.glk_windows.specs.Changes.{put_to}
 use Rattle.glk_screen.specs.Wrapper.{FlatWrapper}
 use Rattle.glk_world.specs.World.{Scene}
 use Rattle.glk_world.specs.Putting.{window_of_stream, entry_of, buffer_put, window_put, counted, stream_put, echo_of, put_along, put_of, put_chars}
-use Rattle.glk_views.specs.Beside.{in_wrapping, in_plain, SaysBeside, CallsBeside}
+use Rattle.glk_views.specs.Beside.{in_wrapping, in_plain, SaysBeside}
 use Rattle.glk_views.proofs.Says.{quiet, joined, if_says, char_says}
 
 buffer_says : (rows : Bool) (limit : ℕ) (r : FlatWrapper) (w : Scene) (win c : ℕ)

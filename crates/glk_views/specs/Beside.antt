@@ -1,12 +1,11 @@
 -- What is said in a view that wraps, beside what is said in the view that doesn't.
 use Rattle.std.specs.Prelude.{◌≡◌, ℕ, Bool, true, false, List, Result, Ok, Err}
 use Rattle.std.specs.Str.{encode_utf8_all}
+use Rattle.gx_words.specs.declared.faults.Fault.{Fault}
 use Rattle.glk_screen.specs.Wrapper.{FlatWrapper, no_row}
 use Rattle.glk_world.specs.declared.views.View.{View}
 use Rattle.glk_world.specs.declared.views.View.TheVariants as view
 use Rattle.glk_world.specs.World.{Scene, Said, Outcome}
-use Rattle.glk_world.specs.Putting.{put_chars}
-use Rattle.glk_world.specs.Shown.{show_grids}
 use Rattle.glk_views.specs.Coming.{Part, as_it_comes, wrapped}
 
 -- the views with rows of grids, and those without
@@ -33,14 +32,7 @@ pub record SaysBeside (rows : Bool) (limit : ℕ) (r : FlatWrapper) (wrapping pl
   pub wraps : wrapping ≡ (in_wrapping rows (wrapped r parts).1 scene, encode_utf8_all (wrapped r parts).0)
   pub comes : plain ≡ (in_plain rows limit scene, encode_utf8_all (as_it_comes parts))
 
--- and the same answer, or the same fault
-abbrev pub ComesBeside : {X : Type 0} → Bool → ℕ → FlatWrapper → Outcome X → Outcome X → Type 0
-ComesBeside rows limit r (Ok a) (Ok b) = SaysBeside rows limit r a.0 b.0 × (a.1 ≡ b.1)
-ComesBeside rows limit r (Err e) (Err f) = e ≡ f
-ComesBeside rows limit r a b = ⊥
-
-abbrev pub CallsBeside : Type 0
-CallsBeside =
-    (rows : Bool) (limit : ℕ) (r : FlatWrapper) (w : Scene) (stream : ℕ) (cs : List ℕ)
-    → SaysBeside rows limit r (put_chars (in_wrapping rows r w) stream cs) (put_chars (in_plain rows limit w) stream cs)
-    × SaysBeside rows limit r (show_grids (in_wrapping rows r w)) (show_grids (in_plain rows limit w))
+-- What a call comes to: so much, and the same answer; or the same fault.
+pub data ComesBeside (rows : Bool) (limit : ℕ) (r : FlatWrapper) {X : Type 0} : Outcome X → Outcome X → Type 0 where
+  comes_to : {a b : Said} {x : X} → SaysBeside rows limit r a b → ComesBeside rows limit r (Ok (a, x)) (Ok (b, x))
+  fails : (e : Fault) → ComesBeside rows limit r (Err e) (Err e)
