@@ -78,7 +78,7 @@ module _ (rows : Bool) (limit : ℕ) where
   calls_by (Some row) does r w f room selector args =
       row_calls row does r w f room args _ _ (looks_same r w row.looks args)
 
-  glk_calls : (r : FlatWrapper) (w : Scene) (f : FlatState) (room selector : ℕ) (args : List ℕ)
+  pub glk_calls : (r : FlatWrapper) (w : Scene) (f : FlatState) (room selector : ℕ) (args : List ℕ)
       → ComesBeside rows limit r (glk_call (in_wrapping rows r w) f room selector args)
       (glk_call (in_plain rows limit w) f room selector args)
   unfolding glk_call row_for
@@ -101,7 +101,7 @@ module _ (rows : Bool) (limit : ℕ) where
   goes_by None r w f room g = fails BadGlk
   goes_by (Some call) r w f room g = turned rows limit (resumes r (record w { waiting = None }) f room call g)
 
-  glk_goes : (r : FlatWrapper) (w : Scene) (f : FlatState) (room : ℕ) (g : Given)
+  pub glk_goes : (r : FlatWrapper) (w : Scene) (f : FlatState) (room : ℕ) (g : Given)
       → ComesBeside rows limit r (glk_go_on (in_wrapping rows r w) f room g) (glk_go_on (in_plain rows limit w) f room g)
   unfolding glk_go_on
   glk_goes r w f room g = goes_by w.waiting r w f room g
