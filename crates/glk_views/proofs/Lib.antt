@@ -1,4 +1,5 @@
 pub mod Says
+pub mod PartLaws
 pub mod Putting
 pub mod Shown
 pub mod Outcomes

@@ -49,4 +49,3 @@ module _ (rows : Bool) (limit : ℕ) where
   chars_say r w stream (c ∷ cs) =
       joined rows limit (λ more. put_chars more stream cs) (λ more. put_chars more stream cs)
       (along_says (length w.streams) r w stream c) (λ r' v. chars_say r' v stream cs)
-

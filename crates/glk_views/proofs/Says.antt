@@ -15,7 +15,7 @@ use Rattle.glk_world.specs.World.{Scene, Said, silent, then_said, said_each}
 use Rattle.glk_world.specs.Putting.{flowed, said_char}
 use Rattle.glk_world.specs.Shown.{shown_grid, last_rows, same_rows, said_row, said_grid, show_rows, prompt_words}
 use Rattle.glk_world.specs.Shown.{wrapped_text, row_let_go, show_grids, end_text, show_prompt, show_line, line_taken}
-use Rattle.glk_views.specs.Coming.{Part, comes, stands, goes, taken, as_it_comes, part_wrapped, wrapped}
+use Rattle.glk_views.specs.Parts.{Part, comes, stands, goes, taken, as_it_comes, part_wrapped, wrapped}
 use Rattle.glk_views.specs.Beside.{in_wrapping, in_plain, SaysBeside}
 
 -- ---- parts, one behind the other

@@ -12,7 +12,7 @@ use Rattle.glk_screen.proofs.Flowing.{enc_append}
 use Rattle.glk_world.specs.declared.grids.ShownGrid.{ShownGrid}
 use Rattle.glk_world.specs.World.{Scene, Said, silent, then_said, said_each}
 use Rattle.glk_world.specs.Shown.{shown_grid, last_rows, same_rows, said_row, said_grid, show_rows, row_let_go, show_grids}
-use Rattle.glk_views.specs.Coming.{stands, goes}
+use Rattle.glk_views.specs.Parts.{stands, goes}
 use Rattle.glk_views.specs.Beside.{in_wrapping, in_plain, SaysBeside}
 use Rattle.glk_views.proofs.Says.{quiet, one_part, joined_at, go_says, line_bytes}
 

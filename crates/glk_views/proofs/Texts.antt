@@ -115,8 +115,10 @@ module _ (rows : Bool) (limit : ℕ) where
       λ count. record { at = at; width = width; count = count + (if stops then 1 else 0) } in
       bound rows limit (reading w f stream stops most)
       (λ v got. can_lay f (buffer (length got.0)) >>= λ there.
-      Ok (silent (chars_got v stream got.1 (length got.0)),
-      reply_filling (length got.0) (buffer (length got.0)) (got.0 ++ (if stops then 0 ∷ [] else [])))) r w
+      Ok (
+        silent (chars_got v stream got.1 (length got.0)),
+        reply_filling (length got.0) (buffer (length got.0)) (got.0 ++ (if stops then 0 ∷ [] else [])),
+      )) r w
       (λ got. looked rows limit (can_lay f (buffer (length got.0)))
       (comes_to (quiet rows limit r (chars_got w stream got.1 (length got.0)))))
 

@@ -6,7 +6,7 @@ use Rattle.glk_screen.specs.Wrapper.{FlatWrapper, no_row}
 use Rattle.glk_world.specs.declared.views.View.{View}
 use Rattle.glk_world.specs.declared.views.View.TheVariants as view
 use Rattle.glk_world.specs.World.{Scene, Said, Outcome}
-use Rattle.glk_views.specs.Coming.{Part, as_it_comes, wrapped}
+use Rattle.glk_views.specs.Parts.{Part, as_it_comes, wrapped}
 
 -- the views with rows of grids, and those without
 abbrev pub wrapping_view : Bool → View

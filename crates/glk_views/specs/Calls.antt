@@ -8,10 +8,12 @@ use Rattle.glk_dispatch.specs.Calls.{glk_call}
 use Rattle.glk_dispatch.specs.Going.{glk_go_on}
 use Rattle.glk_views.specs.Beside.{in_wrapping, in_plain, ComesBeside}
 
--- Each call comes to the same, and so does each that waited.
+-- Each call comes to the same, and so does each that goes on.
 pub record CallsBeside : Type 0 where
-  pub calls : (rows : Bool) (limit : ℕ) (r : FlatWrapper) (w : Scene) (f : FlatState) (room selector : ℕ) (args : List ℕ)
+  pub calls : (rows : Bool) (limit : ℕ) (r : FlatWrapper) (w : Scene) (f : FlatState) (room selector : ℕ)
+      (args : List ℕ)
       → ComesBeside rows limit r (glk_call (in_wrapping rows r w) f room selector args)
       (glk_call (in_plain rows limit w) f room selector args)
   pub goes_on : (rows : Bool) (limit : ℕ) (r : FlatWrapper) (w : Scene) (f : FlatState) (room : ℕ) (g : Given)
-      → ComesBeside rows limit r (glk_go_on (in_wrapping rows r w) f room g) (glk_go_on (in_plain rows limit w) f room g)
+      → ComesBeside rows limit r (glk_go_on (in_wrapping rows r w) f room g)
+      (glk_go_on (in_plain rows limit w) f room g)

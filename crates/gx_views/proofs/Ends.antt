@@ -4,7 +4,7 @@ use Rattle.std.proofs.Common.{arith}
 use Rattle.glk_screen.specs.Wrapper.{FlatWrapper, no_row}
 use Rattle.glk_world.specs.World.{FlatWorld, Scene, after, empty_world}
 use Rattle.glk_world.specs.Shown.{end_text}
-use Rattle.glk_views.specs.Coming.{wrapped}
+use Rattle.glk_views.specs.Parts.{wrapped}
 use Rattle.glk_views.specs.Beside.{wrapping_view, plain_view, in_wrapping, in_plain}
 use Rattle.glk_views.proofs.Says.{end_says}
 use Rattle.gx_machine.specs.Machine.{FlatMachine}

@@ -28,7 +28,7 @@ use Rattle.glk_dispatch.specs.Calls.{glk_call}
 use Rattle.glk_dispatch.specs.Going.{glk_go_on}
 use Rattle.glk_text_calls.specs.Output.{putting}
 use Rattle.glk_text_calls.specs.PuttingSaves.{put_save, take_rest}
-use Rattle.glk_views.specs.Coming.{Part, as_it_comes, wrapped}
+use Rattle.glk_views.specs.Parts.{Part, as_it_comes, wrapped}
 use Rattle.glk_views.specs.Beside.{in_wrapping, in_plain, SaysBeside, ComesBeside, comes_to, fails}
 use Rattle.glk_views.proofs.Says.{both_come, both_wrapped, quiet, line_says}
 use Rattle.glk_views.proofs.Shown.{grids_say}

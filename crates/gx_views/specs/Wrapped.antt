@@ -3,8 +3,8 @@ use Rattle.std.specs.Prelude.{◌≡◌, ℕ, Bool, List, [], Option}
 use Rattle.std.specs.Str.{encode_utf8_all}
 use Rattle.glk_screen.specs.Wrapper.{no_row}
 use Rattle.glk_screen.specs.Laws.{IsWrapped}
-use Rattle.glk_world.specs.World.{empty_world}
-use Rattle.glk_views.specs.Coming.{Part, as_it_comes, wrapped}
+use Rattle.glk_world.specs.World.{FlatWorld, empty_world}
+use Rattle.glk_views.specs.Parts.{Part, as_it_comes, wrapped}
 use Rattle.glk_views.specs.Beside.{wrapping_view, plain_view, in_plain}
 use Rattle.gx_machine.specs.Machine.{FlatMachine}
 use Rattle.gx_machine.specs.Log.{Log}
@@ -15,7 +15,7 @@ use Rattle.gx_session.specs.Session.{RunEnd, final_of}
 -- a configuration in the view that doesn't wrap, with this text, of which so much was sent
 abbrev pub unwrapped : Bool → ℕ → List ℕ → List (List ℕ) → Configuration → Configuration
 unwrapped rows columns text sent m =
-    let world = record { scene = in_plain rows columns m.world.scene; text = text } in
+    let world : FlatWorld = record { scene = in_plain rows columns m.world.scene; text = text } in
     record m { world = world; sent = sent }
 
 -- Both ends come by the same stop, and are the same but for view, row, text and what was sent of it. The texts are
