@@ -5,18 +5,21 @@ use Rattle.glk_screen.specs.Wrapper.{FlatWrapper, no_row, let_go, restarted, sta
 use Rattle.glk_screen.specs.Laws.{IsWrapped}
 use Rattle.glk_screen.proofs.WrapLaws.{Lets, lets_both, char_lets, same_text, both_texts, IsFree, IsRow, char_within}
 use Rattle.glk_screen.proofs.WrapLaws.{none_row, none_stays, stays_less}
-use Rattle.glk_views.specs.Parts.{Part, comes, stands, goes, taken, as_it_comes, part_wrapped, wrapped}
+use Rattle.glk_views.specs.Parts.{Part, comes, grid_row, goes, taken, barred, as_it_comes, part_wrapped, wrapped}
 use Rattle.glk_views.specs.Laws.{RowsStay, WrappingKeepsParts}
 use Rattle.glk_views.proofs.Says.{both_come}
 
 -- of what was put a front is let go, and the rest is held
 part_lets : (r : FlatWrapper) (part : Part) → Lets (r.row ++ as_it_comes (part ∷ [])) (part_wrapped r part)
 part_lets r (comes c) = char_lets r c
-part_lets r (stands cs) = record {
-  front = r.row ++ (cs ++ []);
-  split = sym (append-nil (r.row ++ (cs ++ [])));
-  is = subst (λ (put : List ℕ). IsWrapped (r.row ++ put) (r.row ++ cs)) (sym (append-nil cs)) (same_text (r.row ++ cs));
-}
+part_lets r (grid_row fresh cs) =
+    let text : List ℕ = barred fresh cs in
+    record {
+      front = r.row ++ (text ++ []);
+      split = sym (append-nil (r.row ++ (text ++ [])));
+      is = subst (λ (put : List ℕ). IsWrapped (r.row ++ put) (r.row ++ text)) (sym (append-nil text))
+          (same_text (r.row ++ text));
+    }
 part_lets r goes = record {
   front = r.row ++ [];
   split = sym (append-nil (r.row ++ []));
@@ -39,7 +42,7 @@ rows_stay r [] row = tt
 rows_stay r (comes c ∷ parts) row =
     let next = char_within r c row in
     (next.stays, rows_stay (part_wrapped r (comes c)).1 parts next.row)
-rows_stay r (stands cs ∷ parts) row = (row.stays, rows_stay (no_row r.limit) parts (none_row r.limit))
+rows_stay r (grid_row fresh cs ∷ parts) row = (row.stays, rows_stay (no_row r.limit) parts (none_row r.limit))
 rows_stay r (goes ∷ parts) row =
     let none : FlatWrapper = (let_go r).1 in
     (row.stays, rows_stay none parts (record { free = tt; stays = none_stays r.limit none.gone }))

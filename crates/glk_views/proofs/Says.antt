@@ -15,7 +15,7 @@ use Rattle.glk_world.specs.World.{Scene, Said, silent, then_said, said_each}
 use Rattle.glk_world.specs.Putting.{flowed, said_char}
 use Rattle.glk_world.specs.Shown.{shown_grid, last_rows, same_rows, said_row, said_grid, show_rows, prompt_words}
 use Rattle.glk_world.specs.Shown.{wrapped_text, row_let_go, show_grids, end_text, show_prompt, show_line, line_taken}
-use Rattle.glk_views.specs.Parts.{Part, comes, stands, goes, taken, as_it_comes, part_wrapped, wrapped}
+use Rattle.glk_views.specs.Parts.{Part, comes, grid_row, goes, taken, barred, as_it_comes, part_wrapped, wrapped}
 use Rattle.glk_views.specs.Beside.{in_wrapping, in_plain, SaysBeside}
 
 -- ---- parts, one behind the other
@@ -23,12 +23,13 @@ use Rattle.glk_views.specs.Beside.{in_wrapping, in_plain, SaysBeside}
 pub both_come : (ps qs : List Part) → as_it_comes (ps ++ qs) ≡ as_it_comes ps ++ as_it_comes qs
 both_come [] qs = refl
 both_come (comes c ∷ ps) qs = ap (λ (xs : List ℕ). c ∷ xs) (both_come ps qs)
-both_come (stands cs ∷ ps) qs =
-    ap (λ (xs : List ℕ). cs ++ xs) (both_come ps qs) ∙ sym (append_assoc cs (as_it_comes ps) (as_it_comes qs))
+both_come (grid_row fresh cs ∷ ps) qs =
+    ap (λ (xs : List ℕ). barred fresh cs ++ xs) (both_come ps qs)
+    ∙ sym (append_assoc (barred fresh cs) (as_it_comes ps) (as_it_comes qs))
 both_come (goes ∷ ps) qs = both_come ps qs
 both_come (taken ∷ ps) qs = both_come ps qs
 
-abbrev joined_text : List ℕ → LetGo → LetGo
+abbrev pub joined_text : List ℕ → LetGo → LetGo
 joined_text text next = (text ++ next.0, next.1)
 
 pub both_wrapped : (r : FlatWrapper) (ps qs : List Part)
@@ -138,9 +139,11 @@ pub char_says : (rows : Bool) (limit : ℕ) (r : FlatWrapper) (w : Scene) (c : �
     → SaysBeside rows limit r (said_char (in_wrapping rows r w) c) (said_char (in_plain rows limit w) c)
 unfolding flowed
 char_says true limit r w c =
-    one_part true limit r (record w { fresh = c == line_feed }) (comes c) (encode_utf8_all (wrapped_char r c).0) (encode_utf8 c) refl (append-nil (encode_utf8 c))
+    one_part true limit r (record w { fresh = c == line_feed }) (comes c) (encode_utf8_all (wrapped_char r c).0)
+    (encode_utf8 c) refl (append-nil (encode_utf8 c))
 char_says false limit r w c =
-    one_part false limit r (record w { fresh = c == line_feed }) (comes c) (encode_utf8_all (wrapped_char r c).0) (encode_utf8 c) refl (append-nil (encode_utf8 c))
+    one_part false limit r (record w { fresh = c == line_feed }) (comes c) (encode_utf8_all (wrapped_char r c).0)
+    (encode_utf8 c) refl (append-nil (encode_utf8 c))
 
 pub line_bytes : (cs : List ℕ) → encode_utf8_all (cs ++ line_feed ∷ []) ≡ encode_utf8_all cs ++ line_feed ∷ []
 unfolding encode_utf8

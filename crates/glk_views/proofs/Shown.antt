@@ -1,64 +1,97 @@
 -- The rows of grids at a wait, in both views: they stand as they are, where nothing is held.
 use Rattle.std.proofs.Common.{◌≡◌, ◌⊎◌, inl, inr, ℕ, ◌==◌, not, Bool, true, false, if◌then◌else◌, List, [], ◌∷◌, ◌++◌}
 use Rattle.std.proofs.Common.{length, map, refl, sym, ◌∙◌, ap}
-use Rattle.std.proofs.lemmas.List.{append-nil}
+use Rattle.std.proofs.lemmas.List.{append-nil, map-append}
+use Rattle.std.proofs.lemmas.List.Folds.{concat-append}
+use Rattle.std.specs.List.{concat}
 use Rattle.std.specs.Prelude.{codes}
 use Rattle.std.specs.Char.{encode_utf8}
 use Rattle.std.specs.Str.{encode_utf8_all}
 use Rattle.gx_words.specs.Constants.{line_feed}
 use Rattle.glk_text.specs.Characters.{shown}
-use Rattle.glk_screen.specs.Wrapper.{FlatWrapper, let_go, taken_by}
+use Rattle.glk_screen.specs.Wrapper.{FlatWrapper, LetGo, let_go, taken_by}
 use Rattle.glk_screen.proofs.Flowing.{enc_append}
 use Rattle.glk_world.specs.declared.grids.ShownGrid.{ShownGrid}
 use Rattle.glk_world.specs.World.{Scene, Said, silent, then_said, said_each}
 use Rattle.glk_world.specs.Shown.{shown_grid, last_rows, same_rows, said_row, said_grid, show_rows, row_let_go, show_grids}
-use Rattle.glk_views.specs.Parts.{stands, goes}
+use Rattle.glk_views.specs.Parts.{Part, grid_row, goes, barred, as_it_comes, wrapped}
 use Rattle.glk_views.specs.Beside.{in_wrapping, in_plain, SaysBeside}
-use Rattle.glk_views.proofs.Says.{quiet, one_part, joined_at, go_says, line_bytes}
+use Rattle.glk_views.proofs.Says.{joined_text, joined_at, go_says, line_bytes}
 
 -- a row of which nothing is held
 abbrev none_held : ℕ → ℕ → FlatWrapper
 none_held size gone = record { limit = size; gone = gone; row = [] }
 
--- The same characters in both, and nothing is held after them; where there are some the row has ended.
+-- the rows that are shown, each behind a bar
+abbrev bar : Bool × List ℕ → List ℕ
+bar x = barred x.0 x.1
+
+abbrev bars : List (Bool × List ℕ) → List ℕ
+bars xs = concat (map bar xs)
+
+abbrev part_of : Bool × List ℕ → Part
+part_of x = grid_row x.0 x.1
+
+-- the columns of the present row after them
+abbrev gone_after : ℕ → List (Bool × List ℕ) → ℕ
+gone_after gone [] = gone
+gone_after gone (x ∷ xs) = 0
+
+none_gone : (xs : List (Bool × List ℕ)) → gone_after 0 xs ≡ 0
+none_gone [] = refl
+none_gone (x ∷ xs) = refl
+
+gone_both : (gone : ℕ) (xs ys : List (Bool × List ℕ)) → gone_after (gone_after gone xs) ys ≡ gone_after gone (xs ++ ys)
+gone_both gone [] ys = refl
+gone_both gone (x ∷ xs) ys = none_gone ys
+
+rows_wrapped : (size gone : ℕ) (xs : List (Bool × List ℕ))
+    → wrapped (none_held size gone) (map part_of xs) ≡ (bars xs, none_held size (gone_after gone xs))
+rows_wrapped size gone [] = refl
+rows_wrapped size gone (x ∷ xs) =
+    ap (joined_text (bar x)) (rows_wrapped size 0 xs)
+    ∙ ap {B = LetGo} (λ (now : ℕ). (bar x ++ bars xs, none_held size now)) (none_gone xs)
+
+rows_come : (xs : List (Bool × List ℕ)) → as_it_comes (map part_of xs) ≡ bars xs
+rows_come [] = refl
+rows_come (x ∷ xs) = ap (λ (text : List ℕ). bar x ++ text) (rows_come xs)
+
+bars_both : (xs ys : List (Bool × List ℕ))
+    → encode_utf8_all (bars xs) ++ encode_utf8_all (bars ys) ≡ encode_utf8_all (bars (xs ++ ys))
+bars_both xs ys =
+    sym (enc_append (bars xs) (bars ys))
+    ∙ ap encode_utf8_all (sym (ap concat (map-append bar xs ys) ∙ concat-append (map bar xs) (map bar ys)))
+
+-- The same rows in both, and nothing is held after them.
 record Stand (rows : Bool) (limit size gone : ℕ) (a b : Said) : Type 0 where
   scene : Scene
-  chars : List ℕ
-  now : ℕ
-  wraps : a ≡ (in_wrapping rows (none_held size now) scene, encode_utf8_all chars)
-  comes : b ≡ (in_plain rows limit scene, encode_utf8_all chars)
-  ends : ((now ≡ gone) × (chars ≡ [])) ⊎ (now ≡ 0)
-
-both_end : (gone first second : ℕ) (xs ys : List ℕ) → ((first ≡ gone) × (xs ≡ [])) ⊎ (first ≡ 0)
-    → ((second ≡ first) × (ys ≡ [])) ⊎ (second ≡ 0) → ((second ≡ gone) × (xs ++ ys ≡ [])) ⊎ (second ≡ 0)
-both_end gone first second xs ys (inl e) (inl k) = inl (k.0 ∙ e.0, rw (e.1, k.1) refl)
-both_end gone first second xs ys (inr e) (inl k) = inr (k.0 ∙ e)
-both_end gone first second xs ys (inl e) (inr k) = inr k
-both_end gone first second xs ys (inr e) (inr k) = inr k
+  stood : List (Bool × List ℕ)
+  wraps : a ≡ (in_wrapping rows (none_held size (gone_after gone stood)) scene, encode_utf8_all (bars stood))
+  comes : b ≡ (in_plain rows limit scene, encode_utf8_all (bars stood))
 
 row_bytes : (fresh : Bool) (xs : List ℕ)
     → (if fresh then [] else line_feed ∷ []) ++ (codes "| " ++ (encode_utf8_all xs ++ line_feed ∷ []))
-    ≡ encode_utf8_all ((if fresh then [] else line_feed ∷ []) ++ (codes "| " ++ (xs ++ line_feed ∷ [])))
+    ≡ encode_utf8_all (barred fresh xs)
 unfolding encode_utf8
 row_bytes true xs = ap (λ (t : List ℕ). codes "| " ++ t) (sym (line_bytes xs))
 row_bytes false xs = ap (λ (t : List ℕ). line_feed ∷ (codes "| " ++ t)) (sym (line_bytes xs))
 
 module _ (rows : Bool) (limit size : ℕ) where
-  stand_by : (gone : ℕ) (scene : Scene) (chars : List ℕ) (now : ℕ) → ((now ≡ gone) × (chars ≡ [])) ⊎ (now ≡ 0)
-      → SaysBeside rows limit (none_held size gone) (in_wrapping rows (none_held size now) scene, encode_utf8_all chars)
-      (in_plain rows limit scene, encode_utf8_all chars)
-  stand_by gone scene chars now (inl e) = rw (e.0, e.1) (quiet rows limit (none_held size gone) scene)
-  stand_by gone scene chars now (inr e) =
-      rw e (one_part rows limit (none_held size gone) scene (stands chars) (encode_utf8_all chars) (encode_utf8_all chars)
-      refl (ap encode_utf8_all (append-nil chars)))
-
   stand_says : (gone : ℕ) (a b : Said) → Stand rows limit size gone a b → SaysBeside rows limit (none_held size gone) a b
-  stand_says gone a b h = rw (h.wraps, h.comes) (stand_by gone h.scene h.chars h.now h.ends)
+  stand_says gone a b h =
+      let shape : LetGo → Said = λ out. (in_wrapping rows out.1 h.scene, encode_utf8_all out.0) in
+      let text : List ℕ → Said = λ chars. (in_plain rows limit h.scene, encode_utf8_all chars) in
+      record {
+        scene = h.scene;
+        parts = map part_of h.stood;
+        wraps = h.wraps ∙ sym (ap shape (rows_wrapped size gone h.stood));
+        comes = h.comes ∙ sym (ap text (rows_come h.stood));
+      }
 
   none_stands : (gone : ℕ) (w : Scene)
       → Stand rows limit size gone (silent (in_wrapping rows (none_held size gone) w)) (silent (in_plain rows limit w))
   none_stands gone w =
-      record { scene = w; chars = []; now = gone; wraps = refl; comes = refl; ends = inl (refl, refl) }
+      record { scene = w; stood = []; wraps = refl; comes = refl }
 
   if_stands : (c : Bool) {gone : ℕ} {a1 b1 a2 b2 : Said} → Stand rows limit size gone a1 b1
       → Stand rows limit size gone a2 b2 → Stand rows limit size gone (if c then a1 else a2) (if c then b1 else b2)
@@ -70,18 +103,20 @@ module _ (rows : Bool) (limit size : ℕ) where
       → Stand rows limit size now (more (in_wrapping rows (none_held size now) w)) (more (in_plain rows limit w)))
       → Stand rows limit size gone (then_said a more) (then_said b more)
   then_stands {gone} {a} {b} more h on =
-      let next = on h.now h.scene in
-      let behind : Said → Said = λ x. (x.0, encode_utf8_all h.chars ++ x.1) in
-      let text = sym (enc_append h.chars next.chars) in
+      let next = on (gone_after gone h.stood) h.scene in
+      let behind : Said → Said = λ x. (x.0, encode_utf8_all (bars h.stood) ++ x.1) in
+      let now = gone_after (gone_after gone h.stood) next.stood in
+      let text = bars_both h.stood next.stood in
+      let both : List ℕ = encode_utf8_all (bars (h.stood ++ next.stood)) in
       record {
         scene = next.scene;
-        chars = h.chars ++ next.chars;
-        now = next.now;
+        stood = h.stood ++ next.stood;
         wraps = ap (λ (x : Said). then_said x more) h.wraps ∙ ap behind next.wraps
-            ∙ ap {B = Said} (λ (t : List ℕ). (in_wrapping rows (none_held size next.now) next.scene, t)) text;
+            ∙ ap {B = Said} (λ (t : List ℕ). (in_wrapping rows (none_held size now) next.scene, t)) text
+            ∙ ap {B = Said} (λ (g : ℕ). (in_wrapping rows (none_held size g) next.scene, both))
+            (gone_both gone h.stood next.stood);
         comes = ap (λ (x : Said). then_said x more) h.comes ∙ ap behind next.comes
             ∙ ap {B = Said} (λ (t : List ℕ). (in_plain rows limit next.scene, t)) text;
-        ends = both_end gone h.now next.now h.chars next.chars h.ends next.ends;
       }
 
   each_stands : {A : Type 0} (say : Scene → A → Said)
@@ -101,15 +136,14 @@ module _ (rows : Bool) (limit size : ℕ) where
   unfolding said_row
   row_stands gone w row =
       let scene : Scene = record w { fresh = true } in
-      let start : List ℕ = if w.fresh then [] else line_feed ∷ [] in
-      let bytes = row_bytes w.fresh (map shown row) in
-      if_stands (length row == 0) (none_stands gone w) (record {
+      let cs : List ℕ = map shown row in
+      let bytes = row_bytes w.fresh cs ∙ ap encode_utf8_all (sym (append-nil (barred w.fresh cs))) in
+      if_stands (length row == 0) (none_stands gone w)
+      (record {
         scene = scene;
-        chars = start ++ (codes "| " ++ (map shown row ++ line_feed ∷ []));
-        now = 0;
+        stood = (w.fresh, cs) ∷ [];
         wraps = ap {B = Said} (λ (t : List ℕ). (in_wrapping rows (none_held size 0) scene, t)) bytes;
         comes = ap {B = Said} (λ (t : List ℕ). (in_plain rows limit scene, t)) bytes;
-        ends = inr refl;
       })
 
   grid_stands : (gone : ℕ) (w : Scene) (grid : ShownGrid)

@@ -2,13 +2,13 @@
 use Rattle.std.specs.Prelude.{◌≡◌, ℕ, true, List, [], ◌∷◌, ◌++◌}
 use Rattle.glk_screen.specs.Wrapper.{FlatWrapper, no_row, stays_within}
 use Rattle.glk_screen.specs.Laws.{IsWrapped}
-use Rattle.glk_views.specs.Parts.{Part, comes, stands, goes, taken, as_it_comes, part_wrapped, wrapped}
+use Rattle.glk_views.specs.Parts.{Part, comes, grid_row, goes, taken, as_it_comes, part_wrapped, wrapped}
 
 -- What each part lets go stays within the row's columns, from those on that were let go before, but for a character
 -- that is wider than a row. Rows of grids stand as they are.
 abbrev pub RowsStay : FlatWrapper → List Part → Type 0
 RowsStay r [] = Unit {0}
-RowsStay r (stands cs ∷ parts) = (stays_within r.limit r.gone r.row ≡ true) × RowsStay (no_row r.limit) parts
+RowsStay r (grid_row fresh cs ∷ parts) = (stays_within r.limit r.gone r.row ≡ true) × RowsStay (no_row r.limit) parts
 RowsStay r (part ∷ parts) =
     (stays_within r.limit r.gone (part_wrapped r part).0 ≡ true) × RowsStay (part_wrapped r part).1 parts
 

@@ -1,26 +1,31 @@
 -- What comes to the text of a run, part by part, and the text that it makes as it comes, and wrapped.
-use Rattle.std.specs.Prelude.{ℕ, List, [], ◌∷◌, ◌++◌}
+use Rattle.std.specs.Prelude.{ℕ, if◌then◌else◌, Bool, List, [], ◌∷◌, ◌++◌, codes}
+use Rattle.gx_words.specs.Constants.{line_feed}
 use Rattle.glk_screen.specs.Wrapper.{FlatWrapper, LetGo, no_row, wrapped_char, let_go, restarted}
 
 pub data Part : Type 0 where
   comes : ℕ → Part  -- a character
-  stands : List ℕ → Part  -- characters that are shown as they are, on rows of their own: those of grids
+  grid_row : Bool → List ℕ → Part  -- a row of a grid, where nothing stands on the last line, or something does
   goes : Part  -- all that is held back is let go: at a wait, a prompt or the end
   taken : Part  -- a line was taken
+
+-- the row of a grid behind a bar, on a line of its own
+abbrev pub barred : Bool → List ℕ → List ℕ
+barred fresh cs = (if fresh then [] else line_feed ∷ []) ++ (codes "| " ++ (cs ++ line_feed ∷ []))
 
 -- as it comes
 abbrev pub as_it_comes : List Part → List ℕ
 as_it_comes [] = []
 as_it_comes (comes c ∷ parts) = c ∷ as_it_comes parts
-as_it_comes (stands cs ∷ parts) = cs ++ as_it_comes parts
+as_it_comes (grid_row fresh cs ∷ parts) = barred fresh cs ++ as_it_comes parts
 as_it_comes (goes ∷ parts) = as_it_comes parts
 as_it_comes (taken ∷ parts) = as_it_comes parts
 
--- what a part lets go of a row, and the row after it: rows of grids end it, and a paragraph begins after a line that
--- was taken
+-- What a part lets go of a row, and the row after it. Rows of grids stand as they are, and a paragraph begins after
+-- them and after a line that was taken.
 abbrev pub part_wrapped : FlatWrapper → Part → LetGo
 part_wrapped r (comes c) = wrapped_char r c
-part_wrapped r (stands cs) = (r.row ++ cs, no_row r.limit)
+part_wrapped r (grid_row fresh cs) = (r.row ++ barred fresh cs, no_row r.limit)
 part_wrapped r goes = let_go r
 part_wrapped r taken = ([], restarted r)
 
