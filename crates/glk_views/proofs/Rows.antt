@@ -35,7 +35,7 @@ use Rattle.glk_dispatch.specs.ObjectCalls.{window_calls, stream_calls}
 use Rattle.glk_dispatch.specs.TextCalls.{text_calls, event_calls, unicode_calls}
 use Rattle.glk_dispatch.specs.Table.{call_table, row_in}
 use Rattle.glk_dispatch.specs.Calls.{done}
-use Rattle.glk_views.specs.Beside.{in_wrapping, in_plain, ComesWith, comes_to, fails}
+use Rattle.glk_views.specs.Beside.{in_wrapping, in_plain, ComesBeside, comes_to, fails}
 use Rattle.glk_views.proofs.Says.{quiet}
 use Rattle.glk_views.proofs.Outcomes.{turned, looked, replied}
 use Rattle.glk_views.proofs.Objects.{opens_window, sets_echo, opens_memory_stream, closes_stream, creates_temp}
@@ -46,7 +46,7 @@ use Rattle.glk_views.proofs.Texts.{asks_line, asks_char, cancels_char, cancels_l
 module _ (rows : Bool) (limit : ℕ) where
   abbrev pub Does : Doing → Type 0
   Does d = (r : FlatWrapper) (w : Scene) (f : FlatState) (room : ℕ) (args : List ℕ)
-      → ComesWith 0 rows limit r (done d (in_wrapping rows r w) f room args) (done d (in_plain rows limit w) f room args)
+      → ComesBeside 0 rows limit r (done d (in_wrapping rows r w) f room args) (done d (in_plain rows limit w) f room args)
 
 infixr 5 ◌&◌
 pub data AllDo (rows : Bool) (limit : ℕ) : List CallRow → Type 0 where

@@ -16,7 +16,7 @@ use Rattle.glk_world.specs.Putting.{flowed, said_char}
 use Rattle.glk_world.specs.Shown.{shown_grid, last_rows, same_rows, said_row, said_grid, show_rows, prompt_words}
 use Rattle.glk_world.specs.Shown.{wrapped_text, row_let_go, show_grids, end_text, show_prompt, show_line, line_taken}
 use Rattle.glk_views.specs.Parts.{Part, comes, grid_row, goes, taken, barred, as_it_comes, lines_taken, part_wrapped, wrapped}
-use Rattle.glk_views.specs.Beside.{in_wrapping, in_plain, SaysWith}
+use Rattle.glk_views.specs.Beside.{in_wrapping, in_plain, SaysBeside}
 
 -- ---- parts, one behind the other
 
@@ -68,13 +68,13 @@ chars_wrapped r (c ∷ cs) =
 
 module _ (rows : Bool) (limit : ℕ) where
   -- nothing
-  pub quiet : (r : FlatWrapper) (w : Scene) → SaysWith 0 rows limit r (silent (in_wrapping rows r w)) (silent (in_plain rows limit w))
+  pub quiet : (r : FlatWrapper) (w : Scene) → SaysBeside 0 rows limit r (silent (in_wrapping rows r w)) (silent (in_plain rows limit w))
   quiet r w = record { scene = w; parts = []; wraps = refl; comes = refl; lines = omega arith }
 
   -- a part that lets go of this text, and is that text as it comes
   pub one_part : (r : FlatWrapper) (w : Scene) (p : Part) (a b : List ℕ)
       → encode_utf8_all (part_wrapped r p).0 ≡ a → encode_utf8_all (as_it_comes (p ∷ [])) ≡ b → lines_taken (p ∷ []) ≡ 0
-      → SaysWith 0 rows limit r (in_wrapping rows (part_wrapped r p).1 w, a) (in_plain rows limit w, b)
+      → SaysBeside 0 rows limit r (in_wrapping rows (part_wrapped r p).1 w, a) (in_plain rows limit w, b)
   one_part r w p a b text plain untaken =
       let shape : List ℕ → Said = λ t. (in_wrapping rows (part_wrapped r p).1 w, t) in
       record {
@@ -86,10 +86,10 @@ module _ (rows : Bool) (limit : ℕ) where
       }
 
   -- one thing after another
-  joined_by : (n k : ℕ) (r : FlatWrapper) (a b : Said) (more1 more2 : Scene → Said) (h : SaysWith n rows limit r a b)
-      → SaysWith k rows limit (wrapped r h.parts).1 (more1 (in_wrapping rows (wrapped r h.parts).1 h.scene))
+  joined_by : (n k : ℕ) (r : FlatWrapper) (a b : Said) (more1 more2 : Scene → Said) (h : SaysBeside n rows limit r a b)
+      → SaysBeside k rows limit (wrapped r h.parts).1 (more1 (in_wrapping rows (wrapped r h.parts).1 h.scene))
       (more2 (in_plain rows limit h.scene))
-      → SaysWith (n + k) rows limit r (then_said a more1) (then_said b more2)
+      → SaysBeside (n + k) rows limit r (then_said a more1) (then_said b more2)
   joined_by n k r a b more1 more2 h next =
       let first = wrapped r h.parts in
       let second = wrapped first.1 next.parts in
@@ -109,47 +109,47 @@ module _ (rows : Bool) (limit : ℕ) where
         lines = let few = h.lines in let more = next.lines in omega (arith, few, more, both_taken h.parts next.parts);
       }
 
-  pub joined_at : (r : FlatWrapper) (a b : Said) (more1 more2 : Scene → Said) (h : SaysWith 0 rows limit r a b)
-      → SaysWith 0 rows limit (wrapped r h.parts).1 (more1 (in_wrapping rows (wrapped r h.parts).1 h.scene))
+  pub joined_at : (r : FlatWrapper) (a b : Said) (more1 more2 : Scene → Said) (h : SaysBeside 0 rows limit r a b)
+      → SaysBeside 0 rows limit (wrapped r h.parts).1 (more1 (in_wrapping rows (wrapped r h.parts).1 h.scene))
       (more2 (in_plain rows limit h.scene))
-      → SaysWith 0 rows limit r (then_said a more1) (then_said b more2)
+      → SaysBeside 0 rows limit r (then_said a more1) (then_said b more2)
   joined_at r a b more1 more2 h next = joined_by 0 0 r a b more1 more2 h next
 
-  pub joined : {r : FlatWrapper} {a b : Said} (more1 more2 : Scene → Said) → SaysWith 0 rows limit r a b
-      → ((r' : FlatWrapper) (w : Scene) → SaysWith 0 rows limit r' (more1 (in_wrapping rows r' w)) (more2 (in_plain rows limit w)))
-      → SaysWith 0 rows limit r (then_said a more1) (then_said b more2)
+  pub joined : {r : FlatWrapper} {a b : Said} (more1 more2 : Scene → Said) → SaysBeside 0 rows limit r a b
+      → ((r' : FlatWrapper) (w : Scene) → SaysBeside 0 rows limit r' (more1 (in_wrapping rows r' w)) (more2 (in_plain rows limit w)))
+      → SaysBeside 0 rows limit r (then_said a more1) (then_said b more2)
   joined {r} {a} {b} more1 more2 h on = joined_at r a b more1 more2 h (on (wrapped r h.parts).1 h.scene)
 
   -- the same scene in both
-  then_by : (k : ℕ) (r : FlatWrapper) (a b : Said) (on : Scene → Scene) → SaysWith 0 rows limit r a b
+  then_by : (k : ℕ) (r : FlatWrapper) (a b : Said) (on : Scene → Scene) → SaysBeside 0 rows limit r a b
       → ((r' : FlatWrapper) (w : Scene)
-      → SaysWith k rows limit r' (silent (on (in_wrapping rows r' w))) (silent (on (in_plain rows limit w))))
-      → SaysWith (0 + k) rows limit r (on a.0, a.1) (on b.0, b.1)
+      → SaysBeside k rows limit r' (silent (on (in_wrapping rows r' w))) (silent (on (in_plain rows limit w))))
+      → SaysBeside (0 + k) rows limit r (on a.0, a.1) (on b.0, b.1)
   then_by k r a b on h next =
-      let both : SaysWith (0 + k) rows limit r (on a.0, a.1 ++ []) (on b.0, b.1 ++ []) =
+      let both : SaysBeside (0 + k) rows limit r (on a.0, a.1 ++ []) (on b.0, b.1 ++ []) =
       joined_by 0 k r a b (λ v. silent (on v)) (λ v. silent (on v)) h (next (wrapped r h.parts).1 h.scene) in
       rw (append-nil a.1, append-nil b.1) at both
 
-  pub then_scene : {r : FlatWrapper} {a b : Said} (on : Scene → Scene) → SaysWith 0 rows limit r a b
+  pub then_scene : {r : FlatWrapper} {a b : Said} (on : Scene → Scene) → SaysBeside 0 rows limit r a b
       → ((r' : FlatWrapper) (w : Scene)
-      → SaysWith 0 rows limit r' (silent (on (in_wrapping rows r' w))) (silent (on (in_plain rows limit w))))
-      → SaysWith 0 rows limit r (on a.0, a.1) (on b.0, b.1)
+      → SaysBeside 0 rows limit r' (silent (on (in_wrapping rows r' w))) (silent (on (in_plain rows limit w))))
+      → SaysBeside 0 rows limit r (on a.0, a.1) (on b.0, b.1)
   then_scene {r} {a} {b} on h next = then_by 0 r a b on h next
 
   -- and a line was taken
-  pub then_taken : {r : FlatWrapper} {a b : Said} (on : Scene → Scene) → SaysWith 0 rows limit r a b
+  pub then_taken : {r : FlatWrapper} {a b : Said} (on : Scene → Scene) → SaysBeside 0 rows limit r a b
       → ((r' : FlatWrapper) (w : Scene)
-      → SaysWith 1 rows limit r' (silent (on (in_wrapping rows r' w))) (silent (on (in_plain rows limit w))))
-      → SaysWith 1 rows limit r (on a.0, a.1) (on b.0, b.1)
+      → SaysBeside 1 rows limit r' (silent (on (in_wrapping rows r' w))) (silent (on (in_plain rows limit w))))
+      → SaysBeside 1 rows limit r (on a.0, a.1) (on b.0, b.1)
   then_taken {r} {a} {b} on h next = then_by 1 r a b on h next
 
-  pub if_says : (c : Bool) {r : FlatWrapper} {a1 b1 a2 b2 : Said} → SaysWith 0 rows limit r a1 b1 → SaysWith 0 rows limit r a2 b2
-      → SaysWith 0 rows limit r (if c then a1 else a2) (if c then b1 else b2)
+  pub if_says : (c : Bool) {r : FlatWrapper} {a1 b1 a2 b2 : Said} → SaysBeside 0 rows limit r a1 b1 → SaysBeside 0 rows limit r a2 b2
+      → SaysBeside 0 rows limit r (if c then a1 else a2) (if c then b1 else b2)
   if_says true h k = h
   if_says false h k = k
 
   -- a line was taken
-  pub after_taken : {r : FlatWrapper} {a b : Said} → SaysWith 0 rows limit (restarted r) a b → SaysWith 1 rows limit r a b
+  pub after_taken : {r : FlatWrapper} {a b : Said} → SaysBeside 0 rows limit (restarted r) a b → SaysBeside 1 rows limit r a b
   after_taken h = record {
     scene = h.scene;
     parts = taken ∷ h.parts;
@@ -159,12 +159,12 @@ module _ (rows : Bool) (limit : ℕ) where
   }
 
   -- all that is held is let go
-  pub go_says : (r : FlatWrapper) (w : Scene) → SaysWith 0 rows limit r (row_let_go (in_wrapping rows r w)) (silent (in_plain rows limit w))
+  pub go_says : (r : FlatWrapper) (w : Scene) → SaysBeside 0 rows limit r (row_let_go (in_wrapping rows r w)) (silent (in_plain rows limit w))
   go_says r w = one_part r w goes (encode_utf8_all r.row) [] refl refl refl
 
   -- characters
   pub text_says : (r : FlatWrapper) (w : Scene) (cs b : List ℕ) → encode_utf8_all cs ≡ b
-      → SaysWith 0 rows limit r (wrapped_text (in_wrapping rows r w) cs) (in_plain rows limit w, b)
+      → SaysBeside 0 rows limit r (wrapped_text (in_wrapping rows r w) cs) (in_plain rows limit w, b)
   text_says r w cs b plain =
       let shape : LetGo → Said = λ x. (in_wrapping rows x.1 w, encode_utf8_all x.0) in
       record {
@@ -178,7 +178,7 @@ module _ (rows : Bool) (limit : ℕ) where
 -- ---- a character, a line, a prompt
 
 pub char_says : (rows : Bool) (limit : ℕ) (r : FlatWrapper) (w : Scene) (c : ℕ)
-    → SaysWith 0 rows limit r (said_char (in_wrapping rows r w) c) (said_char (in_plain rows limit w) c)
+    → SaysBeside 0 rows limit r (said_char (in_wrapping rows r w) c) (said_char (in_plain rows limit w) c)
 unfolding flowed
 char_says true limit r w c =
     one_part true limit r (record w { fresh = c == line_feed }) (comes c) (encode_utf8_all (wrapped_char r c).0)
@@ -192,7 +192,7 @@ unfolding encode_utf8
 line_bytes cs = enc_append cs (line_feed ∷ [])
 
 pub line_says : (rows : Bool) (limit : ℕ) (r : FlatWrapper) (w : Scene) (line : List ℕ)
-    → SaysWith 0 rows limit r (show_line (in_wrapping rows r w) line) (show_line (in_plain rows limit w) line)
+    → SaysBeside 0 rows limit r (show_line (in_wrapping rows r w) line) (show_line (in_plain rows limit w) line)
 unfolding show_line
 line_says true limit r w line =
     text_says true limit r (record w { fresh = true }) (map shown line ++ line_feed ∷ []) _ (line_bytes (map shown line))
@@ -204,13 +204,13 @@ unfolding encode_utf8
 prompt_bytes = refl
 
 prompted : (rows : Bool) (limit : ℕ) (r : FlatWrapper) (w : Scene)
-    → SaysWith 0 rows limit r (then_said (wrapped_text (in_wrapping rows r w) prompt_words) row_let_go) (in_plain rows limit w, prompt_words ++ [])
+    → SaysBeside 0 rows limit r (then_said (wrapped_text (in_wrapping rows r w) prompt_words) row_let_go) (in_plain rows limit w, prompt_words ++ [])
 prompted rows limit r w =
     joined rows limit row_let_go silent (text_says rows limit r w prompt_words prompt_words prompt_bytes)
     (λ r' v. go_says rows limit r' v)
 
 pub prompt_says : (rows : Bool) (limit : ℕ) (r : FlatWrapper) (w : Scene)
-    → SaysWith 0 rows limit r (show_prompt (in_wrapping rows r w)) (show_prompt (in_plain rows limit w))
+    → SaysBeside 0 rows limit r (show_prompt (in_wrapping rows r w)) (show_prompt (in_plain rows limit w))
 unfolding show_prompt
 prompt_says true limit r w = prompted true limit r (record w { fresh = false })
 prompt_says false limit r w = prompted false limit r (record w { fresh = false })
@@ -218,7 +218,7 @@ prompt_says false limit r w = prompted false limit r (record w { fresh = false }
 -- ---- the end
 
 pub end_says : (rows : Bool) (limit : ℕ) (r : FlatWrapper) (w : Scene)
-    → SaysWith 0 rows limit r (end_text (in_wrapping rows r w)) (end_text (in_plain rows limit w))
+    → SaysBeside 0 rows limit r (end_text (in_wrapping rows r w)) (end_text (in_plain rows limit w))
 unfolding end_text
 end_says true limit r w = go_says true limit r w
 end_says false limit r w = go_says false limit r w

@@ -15,7 +15,7 @@ use Rattle.glk_world.specs.declared.grids.ShownGrid.{ShownGrid}
 use Rattle.glk_world.specs.World.{Scene, Said, silent, then_said, said_each}
 use Rattle.glk_world.specs.Shown.{shown_grid, last_rows, same_rows, said_row, said_grid, show_rows, row_let_go, show_grids}
 use Rattle.glk_views.specs.Parts.{Part, grid_row, goes, barred, as_it_comes, lines_taken, wrapped}
-use Rattle.glk_views.specs.Beside.{in_wrapping, in_plain, SaysWith}
+use Rattle.glk_views.specs.Beside.{in_wrapping, in_plain, SaysBeside}
 use Rattle.glk_views.proofs.Says.{joined_text, joined_at, go_says, line_bytes}
 
 -- a row of which nothing is held
@@ -81,7 +81,7 @@ row_bytes true xs = ap (λ (t : List ℕ). codes "| " ++ t) (sym (line_bytes xs)
 row_bytes false xs = ap (λ (t : List ℕ). line_feed ∷ (codes "| " ++ t)) (sym (line_bytes xs))
 
 module _ (rows : Bool) (limit size : ℕ) where
-  stand_says : (gone : ℕ) (a b : Said) → Stand rows limit size gone a b → SaysWith 0 rows limit (none_held size gone) a b
+  stand_says : (gone : ℕ) (a b : Said) → Stand rows limit size gone a b → SaysBeside 0 rows limit (none_held size gone) a b
   stand_says gone a b h =
       let shape : LetGo → Said = λ out. (in_wrapping rows out.1 h.scene, encode_utf8_all out.0) in
       let text : List ℕ → Said = λ chars. (in_plain rows limit h.scene, encode_utf8_all chars) in
@@ -168,11 +168,11 @@ module _ (rows : Bool) (limit size : ℕ) where
       (λ now v. none_stands now (record v { shown = grids }))
 
 pub grids_say : (rows : Bool) (limit : ℕ) (r : FlatWrapper) (w : Scene)
-    → SaysWith 0 rows limit r (show_grids (in_wrapping rows r w)) (show_grids (in_plain rows limit w))
+    → SaysBeside 0 rows limit r (show_grids (in_wrapping rows r w)) (show_grids (in_plain rows limit w))
 unfolding show_grids
 grids_say true limit r w =
     let none : FlatWrapper = (let_go r).1 in
-    let first : SaysWith 0 true limit r (row_let_go (in_wrapping true r w)) (silent (in_plain true limit w)) = record {
+    let first : SaysBeside 0 true limit r (row_let_go (in_wrapping true r w)) (silent (in_plain true limit w)) = record {
       scene = w;
       parts = goes ∷ [];
       wraps = ap {B = Said} (λ (t : List ℕ). (in_wrapping true none w, encode_utf8_all t)) (sym (append-nil r.row));

@@ -26,7 +26,7 @@ in_plain rows limit w = record w { view = plain_view rows; row = no_row limit }
 
 -- What is said in a view that wraps, from a row on, beside what is said in the other: the scenes are the same but for
 -- view and row, and the texts are those of the same parts, where so many lines are taken at most.
-pub record SaysWith (most : ℕ) (rows : Bool) (limit : ℕ) (r : FlatWrapper) (wrapping plain : Said) : Type 0 where
+pub record SaysBeside (most : ℕ) (rows : Bool) (limit : ℕ) (r : FlatWrapper) (wrapping plain : Said) : Type 0 where
   pub scene : Scene
   pub parts : List Part
   pub wraps : wrapping ≡ (in_wrapping rows (wrapped r parts).1 scene, encode_utf8_all (wrapped r parts).0)
@@ -34,6 +34,8 @@ pub record SaysWith (most : ℕ) (rows : Bool) (limit : ℕ) (r : FlatWrapper) (
   pub lines : lines_taken parts ≤ most
 
 -- What a call comes to: so much, and the same answer; or the same fault.
-pub data ComesWith (most : ℕ) (rows : Bool) (limit : ℕ) (r : FlatWrapper) {X : Type 0} : Outcome X → Outcome X → Type 0 where
-  comes_to : {a b : Said} {x : X} → SaysWith most rows limit r a b → ComesWith most rows limit r (Ok (a, x)) (Ok (b, x))
-  fails : (e : Fault) → ComesWith most rows limit r (Err e) (Err e)
+pub data ComesBeside (most : ℕ) (rows : Bool) (limit : ℕ) (r : FlatWrapper) {X : Type 0}
+    : Outcome X → Outcome X → Type 0 where
+  comes_to : {a b : Said} {x : X} → SaysBeside most rows limit r a b
+      → ComesBeside most rows limit r (Ok (a, x)) (Ok (b, x))
+  fails : (e : Fault) → ComesBeside most rows limit r (Err e) (Err e)

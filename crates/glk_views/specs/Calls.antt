@@ -7,7 +7,7 @@ use Rattle.glk_replies.specs.declared.Given.{Given}
 use Rattle.glk_replies.specs.declared.Given.TheVariants as given
 use Rattle.glk_dispatch.specs.Calls.{glk_call}
 use Rattle.glk_dispatch.specs.Going.{glk_go_on}
-use Rattle.glk_views.specs.Beside.{in_wrapping, in_plain, ComesWith}
+use Rattle.glk_views.specs.Beside.{in_wrapping, in_plain, ComesBeside}
 
 -- a line is taken by what goes on with one
 abbrev pub lines_in : Given → ℕ
@@ -18,8 +18,8 @@ lines_in g = 0
 pub record CallsBeside : Type 0 where
   pub calls : (rows : Bool) (limit : ℕ) (r : FlatWrapper) (w : Scene) (f : FlatState) (room selector : ℕ)
       (args : List ℕ)
-      → ComesWith 0 rows limit r (glk_call (in_wrapping rows r w) f room selector args)
+      → ComesBeside 0 rows limit r (glk_call (in_wrapping rows r w) f room selector args)
       (glk_call (in_plain rows limit w) f room selector args)
   pub goes_on : (rows : Bool) (limit : ℕ) (r : FlatWrapper) (w : Scene) (f : FlatState) (room : ℕ) (g : Given)
-      → ComesWith (lines_in g) rows limit r (glk_go_on (in_wrapping rows r w) f room g)
+      → ComesBeside (lines_in g) rows limit r (glk_go_on (in_wrapping rows r w) f room g)
       (glk_go_on (in_plain rows limit w) f room g)

@@ -30,7 +30,7 @@ use Rattle.glk_dispatch.specs.Going.{glk_go_on}
 use Rattle.glk_text_calls.specs.Output.{putting}
 use Rattle.glk_text_calls.specs.PuttingSaves.{put_save, take_rest}
 use Rattle.glk_views.specs.Parts.{Part, as_it_comes, lines_taken, wrapped}
-use Rattle.glk_views.specs.Beside.{in_wrapping, in_plain, SaysWith, ComesWith, comes_to, fails}
+use Rattle.glk_views.specs.Beside.{in_wrapping, in_plain, SaysBeside, ComesBeside, comes_to, fails}
 use Rattle.glk_views.specs.Calls.{lines_in}
 use Rattle.glk_views.proofs.Says.{both_come, both_taken, both_wrapped, quiet, line_says}
 use Rattle.glk_views.proofs.Shown.{grids_say}
@@ -54,7 +54,7 @@ use Rattle.gx_play.specs.Wrapped.{TakesLines, one_more}
 -- ---- saves
 
 saves : (rows : Bool) (limit : ℕ) (r : FlatWrapper) (w : Scene) (f : FlatState) (stream : ℕ)
-    → ComesWith 0 rows limit r (saving (in_wrapping rows r w) f stream) (saving (in_plain rows limit w) f stream)
+    → ComesBeside 0 rows limit r (saving (in_wrapping rows r w) f stream) (saving (in_plain rows limit w) f stream)
 unfolding saving
 saves rows limit r w f stream =
     comes_if rows limit (f.iosys.0 == glk_system)
@@ -62,7 +62,7 @@ saves rows limit r w f stream =
     (puts_save rows limit r w f stream (save_bytes f.story (saved_copy f)))) (comes_to (quiet rows limit r w))
 
 restores : (rows : Bool) (limit : ℕ) (r : FlatWrapper) (w : Scene) (f : FlatState) (stream : ℕ)
-    → ComesWith 0 rows limit r (restoring (in_wrapping rows r w) f stream) (restoring (in_plain rows limit w) f stream)
+    → ComesBeside 0 rows limit r (restoring (in_wrapping rows r w) f stream) (restoring (in_plain rows limit w) f stream)
 unfolding restoring
 restores rows limit r w f stream =
     comes_if rows limit (f.iosys.0 == glk_system)
@@ -100,7 +100,7 @@ pub data Verdicts (rows : Bool) (limit : ℕ) (r : FlatWrapper) (input : List �
 
 module _ (rows : Bool) (limit : ℕ) (r : FlatWrapper) where
   pub said_more : {n : ℕ} (most k : ℕ) → n + k ≤ most → (a b : FlatWorld) (h : Worlds rows limit r n a b) (x y : Said)
-      → SaysWith k rows limit (wrapped r h.parts).1 x y → Worlds rows limit r most (after a x) (after b y)
+      → SaysBeside k rows limit (wrapped r h.parts).1 x y → Worlds rows limit r most (after a x) (after b y)
   said_more most k less a b h x y s =
       let first = wrapped r h.parts in
       let second = wrapped first.1 s.parts in
@@ -122,25 +122,25 @@ module _ (rows : Bool) (limit : ℕ) (r : FlatWrapper) where
 
   -- what is said or called of scenes, at those of the worlds
   pub says_at : {n : ℕ} (a b : FlatWorld) (h : Worlds rows limit r n a b) (say : Scene → Said)
-      → ((r' : FlatWrapper) (w : Scene) → SaysWith 0 rows limit r' (say (in_wrapping rows r' w)) (say (in_plain rows limit w)))
-      → SaysWith 0 rows limit (wrapped r h.parts).1 (say a.scene) (say b.scene)
+      → ((r' : FlatWrapper) (w : Scene) → SaysBeside 0 rows limit r' (say (in_wrapping rows r' w)) (say (in_plain rows limit w)))
+      → SaysBeside 0 rows limit (wrapped r h.parts).1 (say a.scene) (say b.scene)
   says_at a b h say on =
       let now = (wrapped r h.parts).1 in
-      subst (λ (v : FlatWorld). SaysWith 0 rows limit now (say v.scene) (say b.scene)) (sym h.wraps)
-      (subst (λ (v : FlatWorld). SaysWith 0 rows limit now (say (in_wrapping rows now h.scene)) (say v.scene)) (sym h.comes)
+      subst (λ (v : FlatWorld). SaysBeside 0 rows limit now (say v.scene) (say b.scene)) (sym h.wraps)
+      (subst (λ (v : FlatWorld). SaysBeside 0 rows limit now (say (in_wrapping rows now h.scene)) (say v.scene)) (sym h.comes)
       (on now h.scene))
 
   comes_at : {X : Type 0} {n : ℕ} (k : ℕ) (a b : FlatWorld) (h : Worlds rows limit r n a b) (call : Scene → Outcome X)
-      → ((r' : FlatWrapper) (w : Scene) → ComesWith k rows limit r' (call (in_wrapping rows r' w)) (call (in_plain rows limit w)))
-      → ComesWith k rows limit (wrapped r h.parts).1 (call a.scene) (call b.scene)
+      → ((r' : FlatWrapper) (w : Scene) → ComesBeside k rows limit r' (call (in_wrapping rows r' w)) (call (in_plain rows limit w)))
+      → ComesBeside k rows limit (wrapped r h.parts).1 (call a.scene) (call b.scene)
   comes_at k a b h call on =
       let now = (wrapped r h.parts).1 in
-      subst (λ (v : FlatWorld). ComesWith k rows limit now (call v.scene) (call b.scene)) (sym h.wraps)
-      (subst (λ (v : FlatWorld). ComesWith k rows limit now (call (in_wrapping rows now h.scene)) (call v.scene)) (sym h.comes)
+      subst (λ (v : FlatWorld). ComesBeside k rows limit now (call v.scene) (call b.scene)) (sym h.wraps)
+      (subst (λ (v : FlatWorld). ComesBeside k rows limit now (call (in_wrapping rows now h.scene)) (call v.scene)) (sym h.comes)
       (on now h.scene))
 
   pub world_says : {n : ℕ} (a b : FlatWorld) → Worlds rows limit r n a b → (say : Scene → Said)
-      → ((r' : FlatWrapper) (w : Scene) → SaysWith 0 rows limit r' (say (in_wrapping rows r' w)) (say (in_plain rows limit w)))
+      → ((r' : FlatWrapper) (w : Scene) → SaysBeside 0 rows limit r' (say (in_wrapping rows r' w)) (say (in_plain rows limit w)))
       → Worlds rows limit r n (after a (say a.scene)) (after b (say b.scene))
   world_says {n} a b h say on =
       said_more n 0 (omega arith) a b h (say a.scene) (say b.scene) (says_at a b h say on)
@@ -184,22 +184,22 @@ module _ (rows : Bool) (limit : ℕ) (r : FlatWrapper) (input : List ℕ) (m : C
 
   -- what is said of a call, of so many lines
   module _ (k most : ℕ) (less : n + k ≤ most) (took : TakesLines input most m.input) (stand : Standing) where
-    more : (x y : Said) → SaysWith k rows limit (wrapped r h.parts).1 x y
+    more : (x y : Said) → SaysBeside k rows limit (wrapped r h.parts).1 x y
         → Worlds rows limit r most (after a x) (after b y)
     more x y says = said_more rows limit r most k less a b h x y says
 
-    answers : (left : ℕ) (x y : Said) (reply : Reply) → SaysWith k rows limit (wrapped r h.parts).1 x y
+    answers : (left : ℕ) (x y : Said) (reply : Reply) → SaysBeside k rows limit (wrapped r h.parts).1 x y
         → Verdicts rows limit r input (after_reply first left (Ok (x, reply))) (after_reply second left (Ok (y, reply)))
     answers left x y reply says =
         let next : Configuration = record (event_done m (answer_of m.machine reply) left) { phase = steps } in
         both_move (runs next (after a x) (after b y) s t most took (more x y says))
 
-    replies_both : (left : ℕ) {o p : Outcome Reply} → ComesWith k rows limit (wrapped r h.parts).1 o p
+    replies_both : (left : ℕ) {o p : Outcome Reply} → ComesBeside k rows limit (wrapped r h.parts).1 o p
         → Verdicts rows limit r input (after_reply first left o) (after_reply second left p)
     replies_both left (comes_to {a = x} {b = y} {x = reply} says) = answers left x y reply says
     replies_both left (fails e) = both_stop (stop.Faulted e) stand
 
-    gives : (w : GlkWait) (x y : Said) → SaysWith k rows limit (wrapped r h.parts).1 x y → (made : Turn)
+    gives : (w : GlkWait) (x y : Said) → SaysBeside k rows limit (wrapped r h.parts).1 x y → (made : Turn)
         → Verdicts rows limit r input (after_given first w (Ok (x, made))) (after_given second w (Ok (y, made)))
     gives w x y says (turn.Answer reply) = answers w.left x y reply says
     gives w x y says turn.Wait = both_stop stop.Stuck stand
@@ -211,7 +211,7 @@ module _ (rows : Bool) (limit : ℕ) (r : FlatWrapper) (input : List ℕ) (m : C
     gives w x y says (turn.Has name) = both_stop stop.Stuck stand
     gives w x y says turn.Exit = both_stop stop.Stuck stand
 
-    gives_both : (w : GlkWait) {o p : Outcome Turn} → ComesWith k rows limit (wrapped r h.parts).1 o p
+    gives_both : (w : GlkWait) {o p : Outcome Turn} → ComesBeside k rows limit (wrapped r h.parts).1 o p
         → Verdicts rows limit r input (after_given first w o) (after_given second w p)
     gives_both w (comes_to {a = x} {b = y} {x = made} says) = gives w x y says made
     gives_both w (fails e) = both_stop (stop.Faulted e) stand
@@ -220,10 +220,10 @@ module _ (rows : Bool) (limit : ℕ) (r : FlatWrapper) (input : List ℕ) (m : C
     none_more : n + 0 ≤ n
     none_more = omega arith
 
-    said_at : (x y : Said) → SaysWith 0 rows limit (wrapped r h.parts).1 x y → Worlds rows limit r n (after a x) (after b y)
+    said_at : (x y : Said) → SaysBeside 0 rows limit (wrapped r h.parts).1 x y → Worlds rows limit r n (after a x) (after b y)
     said_at x y says = said_more rows limit r n 0 none_more a b h x y says
 
-    shown_at : (x y : Said) → SaysWith 0 rows limit (wrapped r h.parts).1 x y
+    shown_at : (x y : Said) → SaysBeside 0 rows limit (wrapped r h.parts).1 x y
         → Worlds rows limit r n (after (after a x) (show_grids x.0)) (after (after b y) (show_grids y.0))
     shown_at x y says =
         world_says rows limit r (after a x) (after b y) (said_at x y says) show_grids (λ r' w. grids_say rows limit r' w)
@@ -233,7 +233,7 @@ module _ (rows : Bool) (limit : ℕ) (r : FlatWrapper) (input : List ℕ) (m : C
         → Verdicts rows limit r input (asking_for first w u made) (asking_for second w v made)
     asks_for w made u v is = both_move (runs (record m { phase = asks made w }) u v s t n took is)
 
-    turns : (w : GlkWait) (x y : Said) → SaysWith 0 rows limit (wrapped r h.parts).1 x y → (made : Turn)
+    turns : (w : GlkWait) (x y : Said) → SaysBeside 0 rows limit (wrapped r h.parts).1 x y → (made : Turn)
         → m.phase ≡ steps
         → Verdicts rows limit r input (after_turn first w (Ok (x, made))) (after_turn second w (Ok (y, made)))
     turns w x y says (turn.Answer reply) begins = answers 0 n none_more took stand w.left x y reply says
@@ -250,7 +250,7 @@ module _ (rows : Bool) (limit : ℕ) (r : FlatWrapper) (input : List ℕ) (m : C
         both_stop stop.Exited (runs (record m { left = w.left }) (after a x) (after b y) s t n
         (subst (λ (p : Phase). TakesLines input (with_line p n) m.input) (sym begins) took) (said_at x y says))
 
-    turns_both : (w : GlkWait) {o p : Outcome Turn} → m.phase ≡ steps → ComesWith 0 rows limit (wrapped r h.parts).1 o p
+    turns_both : (w : GlkWait) {o p : Outcome Turn} → m.phase ≡ steps → ComesBeside 0 rows limit (wrapped r h.parts).1 o p
         → Verdicts rows limit r input (after_turn first w o) (after_turn second w p)
     turns_both w begins (comes_to {a = x} {b = y} {x = made} says) = turns w x y says made begins
     turns_both w begins (fails e) = both_stop (stop.Faulted e) stand
@@ -272,7 +272,7 @@ module _ (rows : Bool) (limit : ℕ) (r : FlatWrapper) (input : List ℕ) (m : C
         both_move (runs next a b s t n
         (subst (λ (i : ℕ). TakesLines input i m.input) (sym (none_given answer w n)) took) h)
 
-    goes_back : (left : ℕ) (x y : Said) → SaysWith 0 rows limit (wrapped r h.parts).1 x y → (found : Option Copy)
+    goes_back : (left : ℕ) (x y : Said) → SaysBeside 0 rows limit (wrapped r h.parts).1 x y → (found : Option Copy)
         → Verdicts rows limit r input (after_restoring first left (Ok (x, found)))
         (after_restoring second left (Ok (y, found)))
     goes_back left x y says (Some copy) =
@@ -280,7 +280,7 @@ module _ (rows : Bool) (limit : ℕ) (r : FlatWrapper) (input : List ℕ) (m : C
         both_move (runs next (after a x) (after b y) s t n took (said_at x y says))
     goes_back left x y says None = answers 0 n none_more took stand left x y (replies failed) says
 
-    restores_both : (left : ℕ) {o p : Outcome (Option Copy)} → ComesWith 0 rows limit (wrapped r h.parts).1 o p
+    restores_both : (left : ℕ) {o p : Outcome (Option Copy)} → ComesBeside 0 rows limit (wrapped r h.parts).1 o p
         → Verdicts rows limit r input (after_restoring first left o) (after_restoring second left p)
     restores_both left (comes_to {a = x} {b = y} {x = found} says) = goes_back left x y says found
     restores_both left (fails e) = both_stop (stop.Faulted e) stand

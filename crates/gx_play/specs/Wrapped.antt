@@ -32,8 +32,9 @@ pub data TakesLines (input : List ℕ) : ℕ → List ℕ → Type 0 where
 -- of it call by call: the same stop, machine, input left, words and units left, calls of the shelf, record and objects
 -- of Glk. Both texts are made of the same parts (`Part` of glk_views/specs/Parts), one of them wrapped from an empty
 -- row on, of which nothing is held back in the end. So the wrapped text is the other one but for the breaks, and its
--- rows stay within the columns.
-pub record IsWrappedRun (grids : Bool) (columns : ℕ) (with_wrap without : RunEnd) : Type 0 where
+-- rows stay within the columns. A row begins after a line that was taken; of these the parts have no more than were
+-- taken from the input.
+pub record IsWrappedRun (grids : Bool) (columns : ℕ) (input : List ℕ) (with_wrap without : RunEnd) : Type 0 where
   pub stop : with_wrap.stop ≡ without.stop
   pub rest : let end = without.configuration in
       unwrapped grids columns end.world.text end.sent with_wrap.configuration ≡ end
