@@ -1,19 +1,16 @@
 -- A call, and one that goes on, in both views.
-use Rattle.std.proofs.Common.{◌≡◌, ℕ, ◌==◌, ◌&&◌, nat_lt, Bool, true, false, if◌then◌else◌, List, [], ◌∷◌, length, Option, Some, None}
-use Rattle.std.proofs.Common.{Result, Ok, Err, IfSome, refl, ap, ◌∙◌}
+use Rattle.std.proofs.Common.{◌≡◌, ℕ, ◌==◌, nat_lt, Bool, if◌then◌else◌, List, length, Option, Some, None}
+use Rattle.std.proofs.Common.{Result, Err, IfSome, refl, ap, ◌∙◌}
 use Rattle.gx_words.specs.declared.faults.Fault.{Fault}
 use Rattle.gx_words.specs.declared.faults.Fault.TheVariants.{BadGlk}
 use Rattle.gx_words.specs.Results.{◌>>=◌}
 use Rattle.gx_state.specs.Flat.{FlatState}
-use Rattle.gx_state.specs.declared.effects.Reply.{Reply}
 use Rattle.glk_screen.specs.Wrapper.{FlatWrapper}
-use Rattle.glk_world.specs.World.{WaitingCall, Scene, Outcome, arg}
-use Rattle.glk_replies.specs.Parts.{give, give_each}
+use Rattle.glk_world.specs.World.{WaitingCall, Scene, arg}
 use Rattle.glk_replies.specs.TextNumbers as texts
-use Rattle.glk_replies.specs.declared.Turn.{Turn}
 use Rattle.glk_replies.specs.declared.Given.{Given}
 use Rattle.glk_replies.specs.declared.Given.TheVariants as given
-use Rattle.glk_object_calls.specs.Answers.{tells, replying, as_turn}
+use Rattle.glk_object_calls.specs.Answers.{as_turn}
 use Rattle.glk_dispatch.specs.declared.table.Class.{Class}
 use Rattle.glk_dispatch.specs.declared.table.Class.TheVariants.{Plain, Window, Stream, Reference}
 use Rattle.glk_dispatch.specs.declared.table.Selector.{Selector}

@@ -1,51 +1,37 @@
 -- The calls of windows, streams and file references, in both views.
-use Rattle.std.proofs.Common.{◌≡◌, ℕ, zero, suc, ◌+◌, ◌==◌, ◌||◌, not, Bool, true, false, if◌then◌else◌, List, [], ◌∷◌, ◌++◌}
-use Rattle.std.proofs.Common.{length, Option, Some, None, Result, Ok, Err, refl, ap, sym}
+use Rattle.std.proofs.Common.{◌≡◌, ℕ, zero, suc, ◌+◌, ◌==◌, not, Bool, true, false, if◌then◌else◌, List, [], ◌∷◌, ◌++◌}
+use Rattle.std.proofs.Common.{length, Option, Some, None, refl}
 use Rattle.std.specs.Prelude.{codes, decimal}
-use Rattle.gx_words.specs.declared.faults.Fault.{Fault}
-use Rattle.gx_words.specs.Results.{◌>>=◌}
 use Rattle.gx_outside.specs.declared.devices.Load.{Load}
 use Rattle.gx_outside.specs.declared.devices.Load.TheVariants as of_load
 use Rattle.gx_state.specs.Flat.{FlatState}
-use Rattle.gx_state.specs.declared.effects.Reply.{Reply}
 use Rattle.glk_files.specs.Names.{base_of}
-use Rattle.glk_objects.specs.Objects as objects
 use Rattle.glk_streams.specs.Constants.{write_mode, read_mode}
 use Rattle.glk_streams.specs.declared.kinds.StreamKind.{StreamKind}
 use Rattle.glk_streams.specs.declared.kinds.StreamKind.TheVariants as kinds
 use Rattle.glk_streams.specs.Stream as one
-use Rattle.glk_streams.specs.Streams as streams
-use Rattle.glk_windows.specs.Windows.{last_given, window_entry, entry_id}
-use Rattle.glk_windows.specs.Windows as windows
+use Rattle.glk_windows.specs.Windows.{last_given}
 use Rattle.glk_windows.specs.Changes as changes
 use Rattle.glk_screen.specs.Wrapper.{FlatWrapper, restarted}
-use Rattle.glk_world.specs.World.{Scene, Said, silent, Outcome, answered, waits, arg, reference_id, reference_at, has_reference}
-use Rattle.glk_world.specs.Putting.{window_of_stream, echo_of, leads_along, leads_to}
-use Rattle.glk_world.specs.Calls.{is_identifier, new_id, with_reference, without_reference, can_open, window_stream}
-use Rattle.glk_world.specs.Calls.{with_streams, with_window, without_window, with_arrangement, window_cleared, cursor_moved}
-use Rattle.glk_world.specs.Calls.{with_echo, with_new_stream, without_stream, without_file, repositioned}
-use Rattle.glk_world.specs.Shown.{show_prompt, line_taken}
-use Rattle.glk_replies.specs.declared.Turn.{Turn}
-use Rattle.glk_replies.specs.declared.Turn.TheVariants as turn
+use Rattle.glk_world.specs.World.{Scene, silent, waits, arg, reference_at, has_reference}
+use Rattle.glk_world.specs.Putting.{echo_of, leads_along, leads_to}
+use Rattle.glk_world.specs.Calls.{is_identifier, with_reference, can_open}
+use Rattle.glk_world.specs.Calls.{with_streams, with_window}
+use Rattle.glk_world.specs.Calls.{with_echo, with_new_stream, without_stream, without_file}
 use Rattle.glk_replies.specs.Numbers as selectors
-use Rattle.glk_replies.specs.Parts.{replies, give, give_each, can_lay, can_give_pair}
+use Rattle.glk_replies.specs.Parts.{give, can_give_pair}
 use Rattle.glk_replies.specs.Strings.{string_length, string_chars}
-use Rattle.glk_object_calls.specs.Answers.{tells, replying, as_turn}
-use Rattle.glk_object_calls.specs.Gestalts.{gestalt, gestalt_ext, has_glyphs}
-use Rattle.glk_object_calls.specs.Windows.{first_window, pair_at, window_open, window_close, window_get_size}
-use Rattle.glk_object_calls.specs.Windows.{window_set_arrangement, window_get_arrangement, window_move_cursor}
-use Rattle.glk_object_calls.specs.Windows.{window_set_echo_stream, window_get_echo_stream, window_iterate}
-use Rattle.glk_object_calls.specs.Windows.{window_get_rock, window_get_type, window_get_parent, window_get_sibling}
-use Rattle.glk_object_calls.specs.Windows.{window_get_root, window_clear, window_get_stream, set_window}
-use Rattle.glk_object_calls.specs.Streams.{stream_of, stream_iterate, stream_get_rock, memory_kind, stream_open_memory, counts}
-use Rattle.glk_object_calls.specs.Streams.{close, stored_file, closing_by, stream_close, stream_set_position}
-use Rattle.glk_object_calls.specs.Streams.{stream_get_position, stream_set_current, stream_get_current}
+use Rattle.glk_object_calls.specs.Answers.{replying}
+use Rattle.glk_object_calls.specs.Windows.{window_open}
+use Rattle.glk_object_calls.specs.Windows.{window_set_echo_stream}
+use Rattle.glk_object_calls.specs.Streams.{stream_of, memory_kind, stream_open_memory, counts}
+use Rattle.glk_object_calls.specs.Streams.{close, stored_file, closing_by, stream_close}
 use Rattle.glk_object_calls.specs.References.{created, fileref_create_temp, fileref_create_by_name}
 use Rattle.glk_object_calls.specs.References.{fileref_create_by_prompt, prompt_goes_on, fileref_create_from_fileref}
-use Rattle.glk_object_calls.specs.References.{fileref_destroy, fileref_iterate, fileref_get_rock, file_name}
-use Rattle.glk_object_calls.specs.References.{fileref_delete_file, fileref_does_file_exist, form_for, open_with}
+use Rattle.glk_object_calls.specs.References.{file_name}
+use Rattle.glk_object_calls.specs.References.{form_for, open_with}
 use Rattle.glk_object_calls.specs.References.{mode_loads, stream_open_file, open_goes_on}
-use Rattle.glk_views.specs.Beside.{in_wrapping, in_plain, SaysBeside, ComesBeside, comes_to, fails}
+use Rattle.glk_views.specs.Beside.{in_wrapping, in_plain, SaysBeside, ComesBeside, comes_to}
 use Rattle.glk_views.proofs.Says.{quiet, then_scene, prompt_says}
 use Rattle.glk_views.proofs.Outcomes.{turned, comes_if, scene_if, looked, bound, replied, comes_taken}
 

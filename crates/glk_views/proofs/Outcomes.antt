@@ -1,10 +1,10 @@
 -- What calls come to in both views, by what they are made of.
-use Rattle.std.proofs.Common.{◌≡◌, ℕ, Bool, true, false, if◌then◌else◌, List, [], ◌∷◌, Result, Ok, Err, refl}
+use Rattle.std.proofs.Common.{ℕ, Bool, true, false, if◌then◌else◌, Result, Ok, Err}
 use Rattle.gx_words.specs.declared.faults.Fault.{Fault}
 use Rattle.gx_words.specs.Results.{◌>>=◌}
 use Rattle.gx_state.specs.declared.effects.Reply.{Reply}
 use Rattle.glk_screen.specs.Wrapper.{FlatWrapper, restarted}
-use Rattle.glk_world.specs.World.{Scene, Said, silent, Outcome, answered}
+use Rattle.glk_world.specs.World.{Scene, silent, Outcome}
 use Rattle.glk_object_calls.specs.Answers.{replying, as_turn}
 use Rattle.glk_views.specs.Beside.{in_wrapping, in_plain, SaysBeside, ComesBeside, comes_to, fails}
 use Rattle.glk_views.proofs.Says.{quiet, after_taken}

@@ -1,5 +1,5 @@
 -- A text that is made of parts loses nothing where it is wrapped, and has no row that is too wide.
-use Rattle.std.proofs.Common.{◌≡◌, ◌≤◌, ℕ, true, List, [], ◌∷◌, ◌++◌, append_assoc, refl, sym, ◌∙◌, ap, subst, arith}
+use Rattle.std.proofs.Common.{◌≡◌, ◌≤◌, ℕ, true, List, [], ◌∷◌, ◌++◌, append_assoc, sym, ◌∙◌, ap, subst, arith}
 use Rattle.std.proofs.lemmas.List.{append-nil}
 use Rattle.glk_screen.specs.Wrapper.{FlatWrapper, no_row, let_go, restarted, stays_within}
 use Rattle.glk_screen.specs.Laws.{IsWrapped}

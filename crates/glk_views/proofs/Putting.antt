@@ -1,5 +1,5 @@
 -- Putting characters to streams, in both views.
-use Rattle.std.proofs.Common.{◌≡◌, ℕ, zero, suc, ◌==◌, Bool, true, false, if◌then◌else◌, List, [], ◌∷◌, length, refl}
+use Rattle.std.proofs.Common.{ℕ, zero, suc, ◌==◌, Bool, true, false, List, [], ◌∷◌, length}
 use Rattle.glk_text.specs.Characters.{shown}
 use Rattle.glk_streams.specs.Streams as streams
 use Rattle.glk_windows.specs.Constants.{text_buffer}
@@ -7,7 +7,7 @@ use Rattle.glk_windows.specs.declared.entries.Entry.{Entry}
 use Rattle.glk_windows.specs.Changes.{put_to}
 use Rattle.glk_screen.specs.Wrapper.{FlatWrapper}
 use Rattle.glk_world.specs.World.{Scene}
-use Rattle.glk_world.specs.Putting.{window_of_stream, entry_of, buffer_put, window_put, counted, stream_put, echo_of, put_along, put_of, put_chars}
+use Rattle.glk_world.specs.Putting.{window_of_stream, entry_of, buffer_put, window_put, counted, stream_put, echo_of, put_along, put_chars}
 use Rattle.glk_views.specs.Beside.{in_wrapping, in_plain, SaysBeside}
 use Rattle.glk_views.proofs.Says.{quiet, joined, if_says, char_says}
 

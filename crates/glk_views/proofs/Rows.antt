@@ -1,8 +1,6 @@
 -- Each row of the table of calls, in both views.
-use Rattle.std.proofs.Common.{◌≡◌, ℕ, ◌==◌, Bool, true, false, if◌then◌else◌, List, [], ◌∷◌, ◌++◌, Option, Some, None}
-use Rattle.std.proofs.Common.{Result, Ok, Err, IfSome, refl}
-use Rattle.gx_words.specs.declared.faults.Fault.{Fault}
-use Rattle.gx_words.specs.Results.{◌>>=◌}
+use Rattle.std.proofs.Common.{ℕ, ◌==◌, Bool, true, false, if◌then◌else◌, List, [], ◌∷◌, ◌++◌, Some}
+use Rattle.std.proofs.Common.{IfSome}
 use Rattle.gx_state.specs.Flat.{FlatState}
 use Rattle.glk_objects.specs.Objects as objects
 use Rattle.glk_streams.specs.Streams as streams
@@ -10,13 +8,11 @@ use Rattle.glk_streams.specs.declared.kinds.Places.{Places}
 use Rattle.glk_windows.specs.Windows as windows
 use Rattle.glk_windows.specs.Windows.{entry_id, window_entry}
 use Rattle.glk_screen.specs.Wrapper.{FlatWrapper}
-use Rattle.glk_world.specs.World.{Scene, Outcome, arg, waits, reference_id, reference_at}
+use Rattle.glk_world.specs.World.{Scene, arg, waits, reference_id, reference_at}
 use Rattle.glk_world.specs.Calls.{without_reference, without_window, with_arrangement, window_cleared, cursor_moved}
 use Rattle.glk_world.specs.Calls.{repositioned}
-use Rattle.glk_replies.specs.declared.Turn.{Turn}
 use Rattle.glk_replies.specs.Numbers as selectors
 use Rattle.glk_replies.specs.Parts.{give, give_each, can_lay}
-use Rattle.glk_object_calls.specs.Answers.{tells, as_turn}
 use Rattle.glk_object_calls.specs.Gestalts.{gestalt, gestalt_ext, has_glyphs}
 use Rattle.glk_object_calls.specs.Windows.{first_window, pair_at, window_close, window_get_size, window_set_arrangement}
 use Rattle.glk_object_calls.specs.Windows.{window_get_arrangement, window_move_cursor, window_get_echo_stream}
@@ -35,7 +31,7 @@ use Rattle.glk_dispatch.specs.ObjectCalls.{window_calls, stream_calls}
 use Rattle.glk_dispatch.specs.TextCalls.{text_calls, event_calls, unicode_calls}
 use Rattle.glk_dispatch.specs.Table.{call_table, row_in}
 use Rattle.glk_dispatch.specs.Calls.{done}
-use Rattle.glk_views.specs.Beside.{in_wrapping, in_plain, ComesBeside, comes_to, fails}
+use Rattle.glk_views.specs.Beside.{in_wrapping, in_plain, ComesBeside, comes_to}
 use Rattle.glk_views.proofs.Says.{quiet}
 use Rattle.glk_views.proofs.Outcomes.{turned, looked, replied}
 use Rattle.glk_views.proofs.Objects.{opens_window, sets_echo, opens_memory_stream, closes_stream, creates_temp}

@@ -1,20 +1,17 @@
 -- What is said in a view that wraps, beside what is said in the other: one thing after another, and what is shown.
-use Rattle.std.proofs.Common.{◌≡◌, ◌⊎◌, inl, inr, ℕ, ◌+◌, ◌==◌, ◌&&◌, not, Bool, true, false, if◌then◌else◌, List, [], ◌∷◌, ◌++◌}
-use Rattle.std.proofs.Common.{append_assoc, length, map, refl, sym, ◌∙◌, ap, subst, suc, ◌≤◌, arith}
+use Rattle.std.proofs.Common.{◌≡◌, ℕ, ◌+◌, ◌==◌, Bool, true, false, if◌then◌else◌, List, [], ◌∷◌, ◌++◌}
+use Rattle.std.proofs.Common.{append_assoc, map, refl, sym, ◌∙◌, ap, arith}
 use Rattle.std.proofs.lemmas.List.{append-nil}
-use Rattle.std.specs.Prelude.{codes}
 use Rattle.std.specs.Char.{encode_utf8}
 use Rattle.std.specs.Str.{encode_utf8_all}
 use Rattle.gx_words.specs.Constants.{line_feed}
 use Rattle.glk_text.specs.Characters.{shown}
-use Rattle.glk_windows.specs.declared.grid.Grid.{Grid}
-use Rattle.glk_screen.specs.Wrapper.{FlatWrapper, LetGo, no_row, wrapped_char, wrapped_chars, let_go, restarted, taken_by}
+use Rattle.glk_screen.specs.Wrapper.{FlatWrapper, LetGo, wrapped_char, wrapped_chars, restarted}
 use Rattle.glk_screen.proofs.Flowing.{enc_append}
-use Rattle.glk_world.specs.declared.grids.ShownGrid.{ShownGrid}
-use Rattle.glk_world.specs.World.{Scene, Said, silent, then_said, said_each}
+use Rattle.glk_world.specs.World.{Scene, Said, silent, then_said}
 use Rattle.glk_world.specs.Putting.{flowed, said_char}
-use Rattle.glk_world.specs.Shown.{shown_grid, last_rows, same_rows, said_row, said_grid, show_rows, prompt_words}
-use Rattle.glk_world.specs.Shown.{wrapped_text, row_let_go, show_grids, end_text, show_prompt, show_line, line_taken}
+use Rattle.glk_world.specs.Shown.{prompt_words}
+use Rattle.glk_world.specs.Shown.{wrapped_text, row_let_go, end_text, show_prompt, show_line}
 use Rattle.glk_views.specs.Parts.{Part, comes, grid_row, goes, taken, barred, as_it_comes, lines_taken, part_wrapped, wrapped}
 use Rattle.glk_views.specs.Beside.{in_wrapping, in_plain, SaysBeside}
 

@@ -1,6 +1,6 @@
 -- The calls of output, input and events, in both views.
 use Rattle.std.proofs.Common.{◌≡◌, ℕ, zero, suc, ◌+◌, ◌-◌, ◌*◌, ◌==◌, ◌&&◌, not, Bool, true, false, if◌then◌else◌, List, []}
-use Rattle.std.proofs.Common.{◌∷◌, ◌++◌, length, Option, Some, None, Result, Ok, Err, refl, ap, sym, subst}
+use Rattle.std.proofs.Common.{◌∷◌, ◌++◌, length, Option, Some, None, Result, Ok, Err, refl, ap, subst}
 use Rattle.std.specs.Prelude.{is_none}
 use Rattle.std.specs.Option.{option_map}
 use Rattle.gx_words.specs.declared.faults.Fault.{Fault}
@@ -11,12 +11,11 @@ use Rattle.gx_state.specs.declared.effects.Reply.{Reply}
 use Rattle.glk_streams.specs.declared.kinds.Places.{Places}
 use Rattle.glk_streams.specs.Stream as one
 use Rattle.glk_streams.specs.Streams as streams
-use Rattle.glk_windows.specs.Windows.{window_entry}
 use Rattle.glk_events.specs.declared.requests.Request.{Request}
 use Rattle.glk_events.specs.Requests as requests
 use Rattle.glk_screen.specs.Wrapper.{FlatWrapper, restarted}
 use Rattle.glk_world.specs.World.{Scene, Said, silent, Outcome, answered, waits, arg}
-use Rattle.glk_world.specs.Putting.{echo_of, end_along, chain_end, places_of, places_read, put_chars, no_places}
+use Rattle.glk_world.specs.Putting.{echo_of, end_along, places_of, places_read, put_chars, no_places}
 use Rattle.glk_world.specs.Calls.{char_got, chars_got}
 use Rattle.glk_world.specs.Shown.{line_taken}
 use Rattle.glk_replies.specs.declared.Turn.{Turn}
@@ -25,22 +24,21 @@ use Rattle.glk_replies.specs.TextNumbers as texts
 use Rattle.glk_replies.specs.Parts.{replies, can_read, can_lay, can_give, can_push, pushes_for, give, reply_filling, numbers_in}
 use Rattle.glk_replies.specs.Parts.{char_writes, writes_for}
 use Rattle.glk_replies.specs.Strings.{string_length, string_chars}
-use Rattle.glk_object_calls.specs.Answers.{tells, replying, as_turn}
 use Rattle.glk_text_calls.specs.declared.characters.Case.{Case}
 use Rattle.glk_text_calls.specs.Putting.{put_all}
 use Rattle.glk_text_calls.specs.Output.{char_given, put_char, put_string, put_buffer, putting}
 use Rattle.glk_text_calls.specs.Input.{found_in, reading, get_chars, get_buffer, get_line, get_char, char_answer}
-use Rattle.glk_text_calls.specs.Characters.{buffer_of, buffer_to_case, recased}
+use Rattle.glk_text_calls.specs.Characters.{buffer_of, buffer_to_case}
 use Rattle.glk_text_calls.specs.PuttingSaves.{takes_save, put_save, take_rest, rest_len, as_bytes}
 use Rattle.glk_event_calls.specs.Constants.{line_event_type}
 use Rattle.glk_event_calls.specs.Events.{may_ask, requested, request_line_event, request_char_event, is_for, without_request}
-use Rattle.glk_event_calls.specs.Events.{cancel_char_event, cancel_line_event, event, no_event, select_poll, select}
+use Rattle.glk_event_calls.specs.Events.{cancel_char_event, cancel_line_event, event, no_event, select}
 use Rattle.glk_event_calls.specs.Events.{event_of, line_places, echo_for, echoes, echoed, echo_places, looked_at_line}
-use Rattle.glk_event_calls.specs.Events.{line_reply, met, select_goes_on}
-use Rattle.glk_views.specs.Beside.{in_wrapping, in_plain, SaysBeside, ComesBeside, comes_to, fails}
+use Rattle.glk_event_calls.specs.Events.{met, select_goes_on}
+use Rattle.glk_views.specs.Beside.{in_wrapping, in_plain, ComesBeside, comes_to, fails}
 use Rattle.glk_views.proofs.Says.{quiet, then_taken, after_taken}
 use Rattle.glk_views.proofs.Putting.{chars_say}
-use Rattle.glk_views.proofs.Outcomes.{turned, comes_if, scene_if, looked, bound, replied, comes_taken}
+use Rattle.glk_views.proofs.Outcomes.{comes_if, scene_if, looked, bound}
 
 module _ (rows : Bool) (limit : ℕ) where
   -- ---- the places where what is put ends in memory

@@ -1,5 +1,5 @@
 -- What is said in a view that wraps, beside what is said in the view that doesn't.
-use Rattle.std.specs.Prelude.{◌≡◌, ◌≤◌, ℕ, Bool, true, false, List, Result, Ok, Err}
+use Rattle.std.specs.Prelude.{◌≡◌, ◌≤◌, ℕ, Bool, true, false, List, Ok, Err}
 use Rattle.std.specs.Str.{encode_utf8_all}
 use Rattle.gx_words.specs.declared.faults.Fault.{Fault}
 use Rattle.glk_screen.specs.Wrapper.{FlatWrapper, no_row}

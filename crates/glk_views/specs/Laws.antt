@@ -1,8 +1,8 @@
 -- What holds of a text that is made of parts.
-use Rattle.std.specs.Prelude.{◌≡◌, ℕ, true, List, [], ◌∷◌, ◌++◌}
+use Rattle.std.specs.Prelude.{◌≡◌, true, List, [], ◌∷◌, ◌++◌}
 use Rattle.glk_screen.specs.Wrapper.{FlatWrapper, no_row, stays_within}
 use Rattle.glk_screen.specs.Laws.{IsWrapped}
-use Rattle.glk_views.specs.Parts.{Part, comes, grid_row, goes, taken, as_it_comes, part_wrapped, wrapped}
+use Rattle.glk_views.specs.Parts.{Part, grid_row, as_it_comes, part_wrapped, wrapped}
 
 -- What each part lets go stays within the row's columns, from those on that were let go before, but for a character
 -- that is wider than a row. Rows of grids stand as they are.
