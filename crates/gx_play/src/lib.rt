@@ -10,8 +10,6 @@
 //! The objects that a run is played with, and the status of the process, are the program's.
 #![tactic(auto)]
 
-ghost use Rattle.gx_play.specs.Wrapped.{WrapsRuns};
-
 mod assembling;
 mod checking;
 mod command;
@@ -29,8 +27,3 @@ mod words;
 mod working;
 
 pub use entry::play;
-
-/// Scratch.
-pub fn runs_are_wrapped()
-    ensures { WrapsRuns }
-{}
