@@ -20,7 +20,7 @@ use Rattle.glk_dispatch.specs.Calls.{named, looked_at, is_on_none, nothing, done
 use Rattle.glk_dispatch.specs.Going.{resumed, go_by, glk_go_on}
 use Rattle.glk_dispatch.proofs.Ready.{call_by}
 use Rattle.glk_views.specs.Beside.{in_wrapping, in_plain, ComesBeside, comes_to, fails}
-use Rattle.glk_views.specs.Calls.{CallsBeside}
+use Rattle.glk_views.specs.Calls.{lines_in, CallsBeside}
 use Rattle.glk_views.proofs.Says.{quiet}
 use Rattle.glk_views.proofs.Outcomes.{turned, comes_if, looked, replied}
 use Rattle.glk_views.proofs.Objects.{closes, prompt_goes, open_goes}
@@ -48,7 +48,7 @@ module _ (rows : Bool) (limit : ℕ) where
       (named_same r w row.other (arg args row.other_place))
 
   does_nothing : (r : FlatWrapper) (w : Scene) (f : FlatState) (room : ℕ) (row : Selector) (args : List ℕ)
-      → ComesBeside rows limit r (nothing (in_wrapping rows r w) f room row args)
+      → ComesBeside 0 rows limit r (nothing (in_wrapping rows r w) f room row args)
       (nothing (in_plain rows limit w) f room row args)
   unfolding nothing
   does_nothing r w f room row args =
@@ -56,7 +56,7 @@ module _ (rows : Bool) (limit : ℕ) where
 
   row_calls : (row : CallRow) → Does rows limit row.does → (r : FlatWrapper) (w : Scene) (f : FlatState) (room : ℕ)
       (args : List ℕ) (first second : Result (Unit {0}) Fault) → first ≡ second
-      → ComesBeside rows limit r
+      → ComesBeside 0 rows limit r
       (first >>= λ there. if is_on_none row.looks args then as_turn (nothing (in_wrapping rows r w) f room row.looks args)
       else done row.does (in_wrapping rows r w) f room args)
       (second >>= λ there. if is_on_none row.looks args then as_turn (nothing (in_plain rows limit w) f room row.looks args)
@@ -68,7 +68,7 @@ module _ (rows : Bool) (limit : ℕ) where
 
   calls_by : (found : Option CallRow) → IfSome found (λ row. Does rows limit row.does) → (r : FlatWrapper) (w : Scene)
       (f : FlatState) (room selector : ℕ) (args : List ℕ)
-      → ComesBeside rows limit r (call_by found (in_wrapping rows r w) f room selector args)
+      → ComesBeside 0 rows limit r (call_by found (in_wrapping rows r w) f room selector args)
       (call_by found (in_plain rows limit w) f room selector args)
   calls_by None does r w f room selector args =
       comes_if rows limit (is_dropped selector) (comes_to (quiet rows limit r w)) (fails BadGlk)
@@ -76,7 +76,7 @@ module _ (rows : Bool) (limit : ℕ) where
       row_calls row does r w f room args _ _ (looks_same r w row.looks args)
 
   pub glk_calls : (r : FlatWrapper) (w : Scene) (f : FlatState) (room selector : ℕ) (args : List ℕ)
-      → ComesBeside rows limit r (glk_call (in_wrapping rows r w) f room selector args)
+      → ComesBeside 0 rows limit r (glk_call (in_wrapping rows r w) f room selector args)
       (glk_call (in_plain rows limit w) f room selector args)
   unfolding glk_call row_for
   glk_calls r w f room selector args =
@@ -85,7 +85,7 @@ module _ (rows : Bool) (limit : ℕ) where
   -- ---- going on
 
   resumes : (r : FlatWrapper) (w : Scene) (f : FlatState) (room : ℕ) (call : WaitingCall) (g : Given)
-      → ComesBeside rows limit r (resumed (in_wrapping rows r w) f room call g) (resumed (in_plain rows limit w) f room call g)
+      → ComesBeside (lines_in g) rows limit r (resumed (in_wrapping rows r w) f room call g) (resumed (in_plain rows limit w) f room call g)
   resumes r w f room call (given.Line line) =
       comes_if rows limit (call.selector == texts.select) (select_goes rows limit r w f room call.arguments line)
       (prompt_goes rows limit r w call.arguments line)
@@ -94,12 +94,12 @@ module _ (rows : Bool) (limit : ℕ) where
   resumes r w f room call (given.Was was) = comes_to (quiet rows limit r w)
 
   goes_by : (waiting : Option WaitingCall) (r : FlatWrapper) (w : Scene) (f : FlatState) (room : ℕ) (g : Given)
-      → ComesBeside rows limit r (go_by waiting (in_wrapping rows r w) f room g) (go_by waiting (in_plain rows limit w) f room g)
+      → ComesBeside (lines_in g) rows limit r (go_by waiting (in_wrapping rows r w) f room g) (go_by waiting (in_plain rows limit w) f room g)
   goes_by None r w f room g = fails BadGlk
   goes_by (Some call) r w f room g = turned rows limit (resumes r (record w { waiting = None }) f room call g)
 
   pub glk_goes : (r : FlatWrapper) (w : Scene) (f : FlatState) (room : ℕ) (g : Given)
-      → ComesBeside rows limit r (glk_go_on (in_wrapping rows r w) f room g) (glk_go_on (in_plain rows limit w) f room g)
+      → ComesBeside (lines_in g) rows limit r (glk_go_on (in_wrapping rows r w) f room g) (glk_go_on (in_plain rows limit w) f room g)
   unfolding glk_go_on
   glk_goes r w f room g = goes_by w.waiting r w f room g
 

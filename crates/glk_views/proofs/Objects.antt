@@ -45,7 +45,7 @@ module _ (rows : Bool) (limit : ℕ) where
   -- ---- windows
 
   pub opens_window : (r : FlatWrapper) (w : Scene) (args : List ℕ)
-      → ComesBeside rows limit r (window_open (in_wrapping rows r w) args) (window_open (in_plain rows limit w) args)
+      → ComesBeside 0 rows limit r (window_open (in_wrapping rows r w) args) (window_open (in_plain rows limit w) args)
   unfolding window_open with_window
   opens_window r w args =
       let new = changes.with_new_window w.windows (arg args 0) (arg args 1) (arg args 2) (arg args 3) (arg args 4) w.next_id in
@@ -57,7 +57,7 @@ module _ (rows : Bool) (limit : ℕ) where
       comes_to (scene_if rows limit (can_open w (arg args 0) (arg args 1) (arg args 3)) (quiet rows limit r opened) (quiet rows limit r w))
 
   pub sets_echo : (r : FlatWrapper) (w : Scene) (args : List ℕ)
-      → ComesBeside rows limit r (window_set_echo_stream (in_wrapping rows r w) args)
+      → ComesBeside 0 rows limit r (window_set_echo_stream (in_wrapping rows r w) args)
       (window_set_echo_stream (in_plain rows limit w) args)
   unfolding window_set_echo_stream with_echo
   sets_echo r w args =
@@ -68,7 +68,7 @@ module _ (rows : Bool) (limit : ℕ) where
   -- ---- streams
 
   pub new_stream : (r : FlatWrapper) (w : Scene) (kind : StreamKind) (mode rock : ℕ)
-      → SaysBeside rows limit r (silent (with_new_stream (in_wrapping rows r w) kind mode rock))
+      → SaysBeside 0 rows limit r (silent (with_new_stream (in_wrapping rows r w) kind mode rock))
       (silent (with_new_stream (in_plain rows limit w) kind mode rock))
   unfolding with_new_stream
   new_stream r w kind mode rock =
@@ -77,7 +77,7 @@ module _ (rows : Bool) (limit : ℕ) where
       scene_if rows limit (is_identifier w.next_id) (quiet rows limit r opened) (quiet rows limit r w)
 
   pub opens_memory_stream : (wide : Bool) (r : FlatWrapper) (w : Scene) (args : List ℕ)
-      → ComesBeside rows limit r (stream_open_memory (in_wrapping rows r w) args wide)
+      → ComesBeside 0 rows limit r (stream_open_memory (in_wrapping rows r w) args wide)
       (stream_open_memory (in_plain rows limit w) args wide)
   unfolding stream_open_memory
   opens_memory_stream wide r w args =
@@ -85,11 +85,11 @@ module _ (rows : Bool) (limit : ℕ) where
       (comes_to (new_stream r w (memory_kind args wide) (arg args 2) (arg args 3)))
 
   pub closes : (r : FlatWrapper) (w : Scene) (f : FlatState) (room : ℕ) (args : List ℕ)
-      → ComesBeside rows limit r (close (in_wrapping rows r w) f room args) (close (in_plain rows limit w) f room args)
+      → ComesBeside 0 rows limit r (close (in_wrapping rows r w) f room args) (close (in_plain rows limit w) f room args)
   unfolding close without_stream
   closes r w f room args = closing (one.window_of (stream_of w (arg args 0)) == 0)
     where
-      closing : (c : Bool) → ComesBeside rows limit r
+      closing : (c : Bool) → ComesBeside 0 rows limit r
           (replying (if c then without_stream (in_wrapping rows r w) (arg args 0) else in_wrapping rows r w)
           (give f room 0 (arg args 1) (counts w (arg args 0))))
           (replying (if c then without_stream (in_plain rows limit w) (arg args 0) else in_plain rows limit w)
@@ -98,7 +98,7 @@ module _ (rows : Bool) (limit : ℕ) where
       closing false = replied rows limit (give f room 0 (arg args 1) (counts w (arg args 0))) r w
 
   closes_by : (file : Option (List ℕ × List ℕ)) (r : FlatWrapper) (w : Scene) (f : FlatState) (room : ℕ) (args : List ℕ)
-      → ComesBeside rows limit r (closing_by file (in_wrapping rows r w) f room args)
+      → ComesBeside 0 rows limit r (closing_by file (in_wrapping rows r w) f room args)
       (closing_by file (in_plain rows limit w) f room args)
   unfolding without_file
   closes_by None r w f room args = turned rows limit (closes r w f room args)
@@ -107,7 +107,7 @@ module _ (rows : Bool) (limit : ℕ) where
       (comes_to (quiet rows limit r (waits (without_file w (arg args 0)) selectors.stream_close args)))
 
   pub closes_stream : (r : FlatWrapper) (w : Scene) (f : FlatState) (room : ℕ) (args : List ℕ)
-      → ComesBeside rows limit r (stream_close (in_wrapping rows r w) f room args)
+      → ComesBeside 0 rows limit r (stream_close (in_wrapping rows r w) f room args)
       (stream_close (in_plain rows limit w) f room args)
   unfolding stream_close
   closes_stream r w f room args = closes_by (stored_file w (arg args 0)) r w f room args
@@ -115,7 +115,7 @@ module _ (rows : Bool) (limit : ℕ) where
   -- ---- file references
 
   pub creates : (r : FlatWrapper) (w : Scene) (base : List ℕ) (usage rock : ℕ)
-      → ComesBeside rows limit r (created (in_wrapping rows r w) base usage rock) (created (in_plain rows limit w) base usage rock)
+      → ComesBeside 0 rows limit r (created (in_wrapping rows r w) base usage rock) (created (in_plain rows limit w) base usage rock)
   unfolding with_reference
   creates r w base usage rock =
       let all = w.references ++ record { id = w.next_id; base = base; usage = usage; rock = rock } ∷ [] in
@@ -123,13 +123,13 @@ module _ (rows : Bool) (limit : ℕ) where
       comes_to (scene_if rows limit (is_identifier w.next_id) (quiet rows limit r more) (quiet rows limit r w))
 
   pub creates_temp : (r : FlatWrapper) (w : Scene) (args : List ℕ)
-      → ComesBeside rows limit r (fileref_create_temp (in_wrapping rows r w) args)
+      → ComesBeside 0 rows limit r (fileref_create_temp (in_wrapping rows r w) args)
       (fileref_create_temp (in_plain rows limit w) args)
   unfolding fileref_create_temp
   creates_temp r w args = creates r w (codes "gxtemp" ++ decimal w.next_id) (arg args 0) (arg args 1)
 
   pub creates_by_name : (r : FlatWrapper) (w : Scene) (f : FlatState) (args : List ℕ)
-      → ComesBeside rows limit r (fileref_create_by_name (in_wrapping rows r w) f args)
+      → ComesBeside 0 rows limit r (fileref_create_by_name (in_wrapping rows r w) f args)
       (fileref_create_by_name (in_plain rows limit w) f args)
   unfolding fileref_create_by_name
   creates_by_name r w f args =
@@ -138,7 +138,7 @@ module _ (rows : Bool) (limit : ℕ) where
       (λ count. creates r w (base_of (string_chars f 1 (arg args 1) count)) (arg args 0) (arg args 2))
 
   pub creates_by_prompt : (r : FlatWrapper) (w : Scene) (args : List ℕ)
-      → ComesBeside rows limit r (fileref_create_by_prompt (in_wrapping rows r w) args)
+      → ComesBeside 0 rows limit r (fileref_create_by_prompt (in_wrapping rows r w) args)
       (fileref_create_by_prompt (in_plain rows limit w) args)
   unfolding fileref_create_by_prompt
   creates_by_prompt r w args =
@@ -146,7 +146,7 @@ module _ (rows : Bool) (limit : ℕ) where
       (λ r' v. quiet rows limit r' (waits v selectors.fileref_create_by_prompt args)))
 
   pub prompt_goes : (r : FlatWrapper) (w : Scene) (args line : List ℕ)
-      → ComesBeside rows limit r (prompt_goes_on (in_wrapping rows r w) args line)
+      → ComesBeside 1 rows limit r (prompt_goes_on (in_wrapping rows r w) args line)
       (prompt_goes_on (in_plain rows limit w) args line)
   unfolding prompt_goes_on
   prompt_goes r w args [] = comes_taken rows limit (comes_to (quiet rows limit (restarted r) (record w { fresh = true })))
@@ -155,7 +155,7 @@ module _ (rows : Bool) (limit : ℕ) where
       (creates (restarted r) (record w { fresh = true }) (base_of (c ∷ cs)) (arg args 0) (arg args 2))
 
   pub creates_from : (r : FlatWrapper) (w : Scene) (args : List ℕ)
-      → ComesBeside rows limit r (fileref_create_from_fileref (in_wrapping rows r w) args)
+      → ComesBeside 0 rows limit r (fileref_create_from_fileref (in_wrapping rows r w) args)
       (fileref_create_from_fileref (in_plain rows limit w) args)
   unfolding fileref_create_from_fileref
   creates_from r w args =
@@ -165,7 +165,7 @@ module _ (rows : Bool) (limit : ℕ) where
   -- ---- files
 
   opens : (r : FlatWrapper) (w : Scene) (selector : ℕ) (args content : List ℕ)
-      → ComesBeside rows limit r (open_with (in_wrapping rows r w) selector args content)
+      → ComesBeside 0 rows limit r (open_with (in_wrapping rows r w) selector args content)
       (open_with (in_plain rows limit w) selector args content)
   unfolding open_with
   opens r w selector args content =
@@ -173,7 +173,7 @@ module _ (rows : Bool) (limit : ℕ) where
       comes_to (new_stream r w kind (arg args 1) (arg args 2))
 
   pub opens_file_stream : (selector : ℕ) (r : FlatWrapper) (w : Scene) (args : List ℕ)
-      → ComesBeside rows limit r (stream_open_file selector (in_wrapping rows r w) args)
+      → ComesBeside 0 rows limit r (stream_open_file selector (in_wrapping rows r w) args)
       (stream_open_file selector (in_plain rows limit w) args)
   unfolding stream_open_file
   opens_file_stream selector r w args =
@@ -182,7 +182,7 @@ module _ (rows : Bool) (limit : ℕ) where
       (comes_to (quiet rows limit r w)))
 
   pub open_goes : (r : FlatWrapper) (w : Scene) (selector : ℕ) (args : List ℕ) (load : Load)
-      → ComesBeside rows limit r (open_goes_on (in_wrapping rows r w) selector args load)
+      → ComesBeside 0 rows limit r (open_goes_on (in_wrapping rows r w) selector args load)
       (open_goes_on (in_plain rows limit w) selector args load)
   open_goes r w selector args of_load.Missing =
       comes_if rows limit (arg args 1 == read_mode) (comes_to (quiet rows limit r w)) (opens r w selector args [])

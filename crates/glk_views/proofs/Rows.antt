@@ -42,7 +42,7 @@ use Rattle.glk_views.proofs.Texts.{asks_line, asks_char, cancels_char, cancels_l
 module _ (rows : Bool) (limit : ℕ) where
   abbrev pub Does : Doing → Type 0
   Does d = (r : FlatWrapper) (w : Scene) (f : FlatState) (room : ℕ) (args : List ℕ)
-      → ComesBeside rows limit r (done d (in_wrapping rows r w) f room args) (done d (in_plain rows limit w) f room args)
+      → ComesBeside 0 rows limit r (done d (in_wrapping rows r w) f room args) (done d (in_plain rows limit w) f room args)
 
 infixr 5 ◌&◌
 pub data AllDo (rows : Bool) (limit : ℕ) : List CallRow → Type 0 where

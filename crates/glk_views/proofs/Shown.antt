@@ -1,6 +1,6 @@
 -- The rows of grids at a wait, in both views: they stand as they are, where nothing is held.
 use Rattle.std.proofs.Common.{◌≡◌, ◌⊎◌, inl, inr, ℕ, ◌==◌, not, Bool, true, false, if◌then◌else◌, List, [], ◌∷◌, ◌++◌}
-use Rattle.std.proofs.Common.{length, map, refl, sym, ◌∙◌, ap}
+use Rattle.std.proofs.Common.{length, map, refl, sym, ◌∙◌, ap, ◌≤◌, arith}
 use Rattle.std.proofs.lemmas.List.{append-nil, map-append}
 use Rattle.std.proofs.lemmas.List.Folds.{concat-append}
 use Rattle.std.specs.List.{concat}
@@ -14,7 +14,7 @@ use Rattle.glk_screen.proofs.Flowing.{enc_append}
 use Rattle.glk_world.specs.declared.grids.ShownGrid.{ShownGrid}
 use Rattle.glk_world.specs.World.{Scene, Said, silent, then_said, said_each}
 use Rattle.glk_world.specs.Shown.{shown_grid, last_rows, same_rows, said_row, said_grid, show_rows, row_let_go, show_grids}
-use Rattle.glk_views.specs.Parts.{Part, grid_row, goes, barred, as_it_comes, wrapped}
+use Rattle.glk_views.specs.Parts.{Part, grid_row, goes, barred, as_it_comes, lines_taken, wrapped}
 use Rattle.glk_views.specs.Beside.{in_wrapping, in_plain, SaysBeside}
 use Rattle.glk_views.proofs.Says.{joined_text, joined_at, go_says, line_bytes}
 
@@ -56,6 +56,10 @@ rows_come : (xs : List (Bool × List ℕ)) → as_it_comes (map part_of xs) ≡ 
 rows_come [] = refl
 rows_come (x ∷ xs) = ap (λ (text : List ℕ). bar x ++ text) (rows_come xs)
 
+rows_untaken : (xs : List (Bool × List ℕ)) → lines_taken (map part_of xs) ≡ 0
+rows_untaken [] = refl
+rows_untaken (x ∷ xs) = rows_untaken xs
+
 bars_both : (xs ys : List (Bool × List ℕ))
     → encode_utf8_all (bars xs) ++ encode_utf8_all (bars ys) ≡ encode_utf8_all (bars (xs ++ ys))
 bars_both xs ys =
@@ -77,7 +81,7 @@ row_bytes true xs = ap (λ (t : List ℕ). codes "| " ++ t) (sym (line_bytes xs)
 row_bytes false xs = ap (λ (t : List ℕ). line_feed ∷ (codes "| " ++ t)) (sym (line_bytes xs))
 
 module _ (rows : Bool) (limit size : ℕ) where
-  stand_says : (gone : ℕ) (a b : Said) → Stand rows limit size gone a b → SaysBeside rows limit (none_held size gone) a b
+  stand_says : (gone : ℕ) (a b : Said) → Stand rows limit size gone a b → SaysBeside 0 rows limit (none_held size gone) a b
   stand_says gone a b h =
       let shape : LetGo → Said = λ out. (in_wrapping rows out.1 h.scene, encode_utf8_all out.0) in
       let text : List ℕ → Said = λ chars. (in_plain rows limit h.scene, encode_utf8_all chars) in
@@ -86,6 +90,7 @@ module _ (rows : Bool) (limit size : ℕ) where
         parts = map part_of h.stood;
         wraps = h.wraps ∙ sym (ap shape (rows_wrapped size gone h.stood));
         comes = h.comes ∙ sym (ap text (rows_come h.stood));
+        lines = omega (arith, rows_untaken h.stood);
       }
 
   none_stands : (gone : ℕ) (w : Scene)
@@ -163,15 +168,16 @@ module _ (rows : Bool) (limit size : ℕ) where
       (λ now v. none_stands now (record v { shown = grids }))
 
 pub grids_say : (rows : Bool) (limit : ℕ) (r : FlatWrapper) (w : Scene)
-    → SaysBeside rows limit r (show_grids (in_wrapping rows r w)) (show_grids (in_plain rows limit w))
+    → SaysBeside 0 rows limit r (show_grids (in_wrapping rows r w)) (show_grids (in_plain rows limit w))
 unfolding show_grids
 grids_say true limit r w =
     let none : FlatWrapper = (let_go r).1 in
-    let first : SaysBeside true limit r (row_let_go (in_wrapping true r w)) (silent (in_plain true limit w)) = record {
+    let first : SaysBeside 0 true limit r (row_let_go (in_wrapping true r w)) (silent (in_plain true limit w)) = record {
       scene = w;
       parts = goes ∷ [];
       wraps = ap {B = Said} (λ (t : List ℕ). (in_wrapping true none w, encode_utf8_all t)) (sym (append-nil r.row));
       comes = refl;
+      lines = omega arith;
     } in
     joined_at true limit r (row_let_go (in_wrapping true r w)) (silent (in_plain true limit w)) show_rows show_rows first
     (stand_says true limit r.limit (taken_by r) _ _ (rows_stand true limit r.limit (taken_by r) w))

@@ -36,7 +36,7 @@ use Rattle.glk_event_calls.specs.Events.{cancel_char_event, cancel_line_event, e
 use Rattle.glk_event_calls.specs.Events.{event_of, line_places, echo_for, echoes, echoed, echo_places, looked_at_line}
 use Rattle.glk_event_calls.specs.Events.{met, select_goes_on}
 use Rattle.glk_views.specs.Beside.{in_wrapping, in_plain, ComesBeside, comes_to, fails}
-use Rattle.glk_views.proofs.Says.{quiet, then_scene, after_taken}
+use Rattle.glk_views.proofs.Says.{quiet, then_taken, after_taken}
 use Rattle.glk_views.proofs.Putting.{chars_say}
 use Rattle.glk_views.proofs.Outcomes.{comes_if, scene_if, looked, bound}
 
@@ -59,17 +59,17 @@ module _ (rows : Bool) (limit : ℕ) where
   -- ---- output
 
   put_at : (p q : Places) → p ≡ q → (r : FlatWrapper) (w : Scene) (f : FlatState) (stream : ℕ) (cs : List ℕ)
-      → ComesBeside rows limit r
+      → ComesBeside 0 rows limit r
       (can_lay f p >>= λ there. Ok (put_chars (in_wrapping rows r w) stream cs, reply_filling 0 p cs))
       (can_lay f q >>= λ there. Ok (put_chars (in_plain rows limit w) stream cs, reply_filling 0 q cs))
   put_at p q same r w f stream cs =
-      subst (λ (q : Places). ComesBeside rows limit r
+      subst (λ (q : Places). ComesBeside 0 rows limit r
       (can_lay f p >>= λ there. Ok (put_chars (in_wrapping rows r w) stream cs, reply_filling 0 p cs))
       (can_lay f q >>= λ there. Ok (put_chars (in_plain rows limit w) stream cs, reply_filling 0 q cs))) same
       (looked rows limit (can_lay f p) (comes_to (chars_say rows limit r w stream cs)))
 
   pub puts_all : (r : FlatWrapper) (w : Scene) (f : FlatState) (stream : ℕ) (cs : List ℕ)
-      → ComesBeside rows limit r (put_all (in_wrapping rows r w) f stream cs) (put_all (in_plain rows limit w) f stream cs)
+      → ComesBeside 0 rows limit r (put_all (in_wrapping rows r w) f stream cs) (put_all (in_plain rows limit w) f stream cs)
   unfolding put_all
   puts_all r w f stream cs =
       comes_if rows limit (not (streams.has w.streams stream)) (comes_to (quiet rows limit r w))
@@ -77,13 +77,13 @@ module _ (rows : Bool) (limit : ℕ) where
       (places_same r w stream (length cs)) r w f stream cs)
 
   pub puts_char : (r : FlatWrapper) (w : Scene) (f : FlatState) (stream width c : ℕ)
-      → ComesBeside rows limit r (put_char (in_wrapping rows r w) f stream width c)
+      → ComesBeside 0 rows limit r (put_char (in_wrapping rows r w) f stream width c)
       (put_char (in_plain rows limit w) f stream width c)
   unfolding put_char
   puts_char r w f stream width c = puts_all r w f stream (char_given width c ∷ [])
 
   pub puts_string : (r : FlatWrapper) (w : Scene) (f : FlatState) (stream width at : ℕ)
-      → ComesBeside rows limit r (put_string (in_wrapping rows r w) f stream width at)
+      → ComesBeside 0 rows limit r (put_string (in_wrapping rows r w) f stream width at)
       (put_string (in_plain rows limit w) f stream width at)
   unfolding put_string
   puts_string r w f stream width at =
@@ -91,21 +91,21 @@ module _ (rows : Bool) (limit : ℕ) where
       (λ count. puts_all r w f stream (string_chars f width at count))
 
   pub puts_buffer : (r : FlatWrapper) (w : Scene) (f : FlatState) (stream width at count : ℕ)
-      → ComesBeside rows limit r (put_buffer (in_wrapping rows r w) f stream width at count)
+      → ComesBeside 0 rows limit r (put_buffer (in_wrapping rows r w) f stream width at count)
       (put_buffer (in_plain rows limit w) f stream width at count)
   unfolding put_buffer
   puts_buffer r w f stream width at count =
       looked rows limit (can_read f at (width * count)) (puts_all r w f stream (numbers_in width f.memory at count))
 
   pub program_puts : (r : FlatWrapper) (w : Scene) (f : FlatState) (c : ℕ)
-      → ComesBeside rows limit r (putting (in_wrapping rows r w) f c) (putting (in_plain rows limit w) f c)
+      → ComesBeside 0 rows limit r (putting (in_wrapping rows r w) f c) (putting (in_plain rows limit w) f c)
   unfolding putting
   program_puts r w f c = puts_all r w f w.current (c ∷ [])
 
   -- ---- input
 
   gets_chars : (r : FlatWrapper) (w : Scene) (f : FlatState) (stream : ℕ) (stops : Bool) (most width at : ℕ)
-      → ComesBeside rows limit r (get_chars (in_wrapping rows r w) f stream stops most width at)
+      → ComesBeside 0 rows limit r (get_chars (in_wrapping rows r w) f stream stops most width at)
       (get_chars (in_plain rows limit w) f stream stops most width at)
   unfolding get_chars chars_got
   gets_chars r w f stream stops most width at =
@@ -121,17 +121,17 @@ module _ (rows : Bool) (limit : ℕ) where
       (comes_to (quiet rows limit r (chars_got w stream got.1 (length got.0)))))
 
   pub gets_buffer : (width : ℕ) (r : FlatWrapper) (w : Scene) (f : FlatState) (args : List ℕ)
-      → ComesBeside rows limit r (get_buffer width (in_wrapping rows r w) f args) (get_buffer width (in_plain rows limit w) f args)
+      → ComesBeside 0 rows limit r (get_buffer width (in_wrapping rows r w) f args) (get_buffer width (in_plain rows limit w) f args)
   gets_buffer width r w f args = gets_chars r w f (arg args 0) false (arg args 2) width (arg args 1)
 
   pub gets_line : (width : ℕ) (r : FlatWrapper) (w : Scene) (f : FlatState) (args : List ℕ)
-      → ComesBeside rows limit r (get_line width (in_wrapping rows r w) f args) (get_line width (in_plain rows limit w) f args)
+      → ComesBeside 0 rows limit r (get_line width (in_wrapping rows r w) f args) (get_line width (in_plain rows limit w) f args)
   gets_line width r w f args =
       comes_if rows limit (arg args 2 == 0) (comes_to (quiet rows limit r w))
       (gets_chars r w f (arg args 0) true (arg args 2 - 1) width (arg args 1))
 
   pub gets_char : (width : ℕ) (r : FlatWrapper) (w : Scene) (f : FlatState) (args : List ℕ)
-      → ComesBeside rows limit r (get_char width (in_wrapping rows r w) f args) (get_char width (in_plain rows limit w) f args)
+      → ComesBeside 0 rows limit r (get_char width (in_wrapping rows r w) f args) (get_char width (in_plain rows limit w) f args)
   unfolding get_char char_got
   gets_char width r w f args =
       let char : ℕ → Option ℕ = λ found.
@@ -141,7 +141,7 @@ module _ (rows : Bool) (limit : ℕ) where
       (λ found. comes_to (quiet rows limit r (char_got w (arg args 0) found)))
 
   pub recases : (first others : Case) (r : FlatWrapper) (w : Scene) (f : FlatState) (args : List ℕ)
-      → ComesBeside rows limit r (buffer_to_case (in_wrapping rows r w) f first others args)
+      → ComesBeside 0 rows limit r (buffer_to_case (in_wrapping rows r w) f first others args)
       (buffer_to_case (in_plain rows limit w) f first others args)
   unfolding buffer_to_case
   recases first others r w f args =
@@ -151,33 +151,33 @@ module _ (rows : Bool) (limit : ℕ) where
   -- ---- events
 
   asks_for : (r : FlatWrapper) (w : Scene) (request : Request)
-      → ComesBeside rows limit r (requested (in_wrapping rows r w) request) (requested (in_plain rows limit w) request)
+      → ComesBeside 0 rows limit r (requested (in_wrapping rows r w) request) (requested (in_plain rows limit w) request)
   asks_for r w request =
       let asking : Scene = record w { requests = requests.with_request w.requests request } in
       comes_to (scene_if rows limit (may_ask w request.win) (quiet rows limit r asking) (quiet rows limit r w))
 
   pub asks_line : (wide : Bool) (r : FlatWrapper) (w : Scene) (args : List ℕ)
-      → ComesBeside rows limit r (request_line_event wide (in_wrapping rows r w) args)
+      → ComesBeside 0 rows limit r (request_line_event wide (in_wrapping rows r w) args)
       (request_line_event wide (in_plain rows limit w) args)
   unfolding request_line_event
   asks_line wide r w args =
       asks_for r w (record { win = arg args 0; line = true; wide = wide; buf = arg args 1; max = arg args 2 })
 
   pub asks_char : (wide : Bool) (r : FlatWrapper) (w : Scene) (args : List ℕ)
-      → ComesBeside rows limit r (request_char_event wide (in_wrapping rows r w) args)
+      → ComesBeside 0 rows limit r (request_char_event wide (in_wrapping rows r w) args)
       (request_char_event wide (in_plain rows limit w) args)
   unfolding request_char_event
   asks_char wide r w args = asks_for r w (record { win = arg args 0; line = false; wide = wide; buf = 0; max = 0 })
 
   pub cancels_char : (r : FlatWrapper) (w : Scene) (args : List ℕ)
-      → ComesBeside rows limit r (cancel_char_event (in_wrapping rows r w) args) (cancel_char_event (in_plain rows limit w) args)
+      → ComesBeside 0 rows limit r (cancel_char_event (in_wrapping rows r w) args) (cancel_char_event (in_plain rows limit w) args)
   unfolding cancel_char_event
   cancels_char r w args =
       comes_to (scene_if rows limit (is_for false (requests.of w.requests (arg args 0)))
       (quiet rows limit r (without_request w (arg args 0))) (quiet rows limit r w))
 
   pub cancels_line : (r : FlatWrapper) (w : Scene) (f : FlatState) (room : ℕ) (args : List ℕ)
-      → ComesBeside rows limit r (cancel_line_event (in_wrapping rows r w) f room args)
+      → ComesBeside 0 rows limit r (cancel_line_event (in_wrapping rows r w) f room args)
       (cancel_line_event (in_plain rows limit w) f room args)
   unfolding cancel_line_event
   cancels_line r w f room args =
@@ -187,14 +187,14 @@ module _ (rows : Bool) (limit : ℕ) where
       (λ reply. comes_to (scene_if rows limit cancels (quiet rows limit r (without_request w (arg args 0))) (quiet rows limit r w)))
 
   waits_or_stuck : (none : Bool) (r : FlatWrapper) (w : Scene) (args : List ℕ)
-      → ComesBeside rows limit r {X = Turn}
+      → ComesBeside 0 rows limit r {X = Turn}
       (Ok (if none then (silent (in_wrapping rows r w), Stuck) else (silent (waits (in_wrapping rows r w) texts.select args), Wait)))
       (Ok (if none then (silent (in_plain rows limit w), Stuck) else (silent (waits (in_plain rows limit w) texts.select args), Wait)))
   waits_or_stuck true r w args = comes_to (quiet rows limit r w)
   waits_or_stuck false r w args = comes_to (quiet rows limit r (waits w texts.select args))
 
   pub selects : (r : FlatWrapper) (w : Scene) (f : FlatState) (room : ℕ) (args : List ℕ)
-      → ComesBeside rows limit r (select (in_wrapping rows r w) f room args) (select (in_plain rows limit w) f room args)
+      → ComesBeside 0 rows limit r (select (in_wrapping rows r w) f room args) (select (in_plain rows limit w) f room args)
   unfolding select
   selects r w f room args =
       bound rows limit (give f room 0 (arg args 0) no_event)
@@ -211,7 +211,7 @@ module _ (rows : Bool) (limit : ℕ) where
 
   met_at : (p q : Places) → p ≡ q → (r : FlatWrapper) (w : Scene) (f : FlatState) (room at : ℕ) (request : Request) (line : List ℕ)
       → (look : Places → Result (Unit {0}) Fault) (reply : Places → Reply)
-      → ComesBeside rows limit r
+      → ComesBeside 1 rows limit r
       (look p >>= λ there. let said = put_chars (in_wrapping rows r w) (echo_for w request) (echoed w request line) in
       Ok ((line_taken (without_request said.0 request.win), said.1), reply p))
       (look q >>= λ there. let said = put_chars (in_plain rows limit w) (echo_for w request) (echoed w request line) in
@@ -220,14 +220,14 @@ module _ (rows : Bool) (limit : ℕ) where
       let putting : Scene → Said = λ v. put_chars v (echo_for w request) (echoed w request line) in
       let after : Scene → Scene = λ v. line_taken (without_request v request.win) in
       let ends : Scene → Reply → Outcome Reply = λ v answer. Ok ((after (putting v).0, (putting v).1), answer) in
-      subst (λ (q : Places). ComesBeside rows limit r (look p >>= λ there. ends (in_wrapping rows r w) (reply p))
+      subst (λ (q : Places). ComesBeside 1 rows limit r (look p >>= λ there. ends (in_wrapping rows r w) (reply p))
       (look q >>= λ there. ends (in_plain rows limit w) (reply q))) same
-      (looked rows limit (look p) (comes_to (then_scene rows limit after
+      (looked rows limit (look p) (comes_to (then_taken rows limit after
       (chars_say rows limit r w (echo_for w request) (echoed w request line))
       (λ r' v. after_taken rows limit (quiet rows limit (restarted r') (record (without_request v request.win) { fresh = true }))))))
 
   pub meets : (r : FlatWrapper) (w : Scene) (f : FlatState) (room at : ℕ) (request : Request) (line : List ℕ)
-      → ComesBeside rows limit r (met (in_wrapping rows r w) f room at request line)
+      → ComesBeside 1 rows limit r (met (in_wrapping rows r w) f room at request line)
       (met (in_plain rows limit w) f room at request line)
   unfolding met looked_at_line
   meets r w f room at request line =
@@ -244,33 +244,33 @@ module _ (rows : Bool) (limit : ℕ) where
       })
 
   meets_oldest : (oldest : Option Request) (r : FlatWrapper) (w : Scene) (f : FlatState) (room at : ℕ) (line : List ℕ)
-      → ComesBeside rows limit r {X = Reply}
+      → ComesBeside 1 rows limit r {X = Reply}
       (elim oldest [ None ↦ Err BadGlk | Some request ↦ met (in_wrapping rows r w) f room at request line ])
       (elim oldest [ None ↦ Err BadGlk | Some request ↦ met (in_plain rows limit w) f room at request line ])
   meets_oldest None r w f room at line = fails BadGlk
   meets_oldest (Some request) r w f room at line = meets r w f room at request line
 
   pub select_goes : (r : FlatWrapper) (w : Scene) (f : FlatState) (room : ℕ) (args line : List ℕ)
-      → ComesBeside rows limit r (select_goes_on (in_wrapping rows r w) f room args line)
+      → ComesBeside 1 rows limit r (select_goes_on (in_wrapping rows r w) f room args line)
       (select_goes_on (in_plain rows limit w) f room args line)
   unfolding select_goes_on
   select_goes r w f room args line = meets_oldest (requests.oldest w.requests) r w f room (arg args 0) line
 
   -- ---- saves
 
-  pub answers_as : {X Y : Type 0} {r : FlatWrapper} {o p : Outcome X} (view : X → Y) → ComesBeside rows limit r o p
-      → ComesBeside rows limit r {X = Y} (o >>= λ x. Ok (x.0, view x.1)) (p >>= λ x. Ok (x.0, view x.1))
+  pub answers_as : {X Y : Type 0} {r : FlatWrapper} {o p : Outcome X} (view : X → Y) → ComesBeside 0 rows limit r o p
+      → ComesBeside 0 rows limit r {X = Y} (o >>= λ x. Ok (x.0, view x.1)) (p >>= λ x. Ok (x.0, view x.1))
   answers_as view (comes_to says) = comes_to says
   answers_as view (fails e) = fails e
 
   pub puts_save : (r : FlatWrapper) (w : Scene) (f : FlatState) (id : ℕ) (bytes : List ℕ)
-      → ComesBeside rows limit r (put_save (in_wrapping rows r w) f id bytes) (put_save (in_plain rows limit w) f id bytes)
+      → ComesBeside 0 rows limit r (put_save (in_wrapping rows r w) f id bytes) (put_save (in_plain rows limit w) f id bytes)
   unfolding put_save
   puts_save r w f id bytes =
       comes_if rows limit (takes_save w id bytes) (answers_as Some (puts_all r w f id bytes)) (comes_to (quiet rows limit r w))
 
   pub takes_rest : (r : FlatWrapper) (w : Scene) (f : FlatState) (id : ℕ)
-      → ComesBeside rows limit r (take_rest (in_wrapping rows r w) f id) (take_rest (in_plain rows limit w) f id)
+      → ComesBeside 0 rows limit r (take_rest (in_wrapping rows r w) f id) (take_rest (in_plain rows limit w) f id)
   unfolding take_rest chars_got
   takes_rest r w f id =
       let s = streams.stream w.streams id in

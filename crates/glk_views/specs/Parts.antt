@@ -1,5 +1,5 @@
 -- What comes to the text of a run, part by part, and the text that it makes as it comes, and wrapped.
-use Rattle.std.specs.Prelude.{ℕ, if◌then◌else◌, Bool, List, [], ◌∷◌, ◌++◌, codes}
+use Rattle.std.specs.Prelude.{ℕ, suc, if◌then◌else◌, Bool, List, [], ◌∷◌, ◌++◌, codes}
 use Rattle.gx_words.specs.Constants.{line_feed}
 use Rattle.glk_screen.specs.Wrapper.{FlatWrapper, LetGo, no_row, wrapped_char, let_go, restarted}
 
@@ -28,6 +28,12 @@ part_wrapped r (comes c) = wrapped_char r c
 part_wrapped r (grid_row fresh cs) = (r.row ++ barred fresh cs, no_row r.limit)
 part_wrapped r goes = let_go r
 part_wrapped r taken = ([], restarted r)
+
+-- how many lines were taken
+abbrev pub lines_taken : List Part → ℕ
+lines_taken [] = 0
+lines_taken (taken ∷ parts) = suc (lines_taken parts)
+lines_taken (part ∷ parts) = lines_taken parts
 
 -- wrapped
 abbrev pub wrapped : FlatWrapper → List Part → LetGo
