@@ -21,10 +21,11 @@ use Rattle.glk_dispatch.specs.Going.{resumed, go_by, glk_go_on}
 use Rattle.glk_dispatch.proofs.Ready.{call_by}
 use Rattle.glk_views.specs.Beside.{in_wrapping, in_plain, ComesBeside, comes_to, fails}
 use Rattle.glk_views.specs.Calls.{lines_in, CallsBeside}
-use Rattle.glk_views.proofs.Says.{quiet}
+use Rattle.glk_views.proofs.Says.{quiet, line_says, end_says}
 use Rattle.glk_views.proofs.Outcomes.{turned, comes_if, looked, replied}
 use Rattle.glk_views.proofs.Objects.{closes, prompt_goes, open_goes}
-use Rattle.glk_views.proofs.Texts.{select_goes}
+use Rattle.glk_views.proofs.Shown.{grids_say}
+use Rattle.glk_views.proofs.Texts.{select_goes, program_puts, puts_save, takes_rest}
 use Rattle.glk_views.proofs.Rows.{Does, all_do, row_does}
 
 module _ (rows : Bool) (limit : ℕ) where
@@ -104,4 +105,13 @@ module _ (rows : Bool) (limit : ℕ) where
   glk_goes r w f room g = goes_by w.waiting r w f room g
 
 pub calls_beside : CallsBeside
-calls_beside = record { calls = glk_calls; goes_on = glk_goes }
+calls_beside = record {
+  calls = glk_calls;
+  goes_on = glk_goes;
+  prints = program_puts;
+  saves = puts_save;
+  restores = takes_rest;
+  shows = grids_say;
+  shows_line = line_says;
+  ends = end_says;
+}
