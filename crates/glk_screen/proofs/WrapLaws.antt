@@ -26,10 +26,10 @@ pieces_append f (p ∷ ps) qs =
     ap (λ (xs : List ℕ). f p ++ xs) (pieces_append f ps qs)
     ∙ sym (append_assoc (f p) (concat (map f ps)) (concat (map f qs)))
 
-same_text : (xs : List ℕ) → IsWrapped xs xs
+pub same_text : (xs : List ℕ) → IsWrapped xs xs
 same_text xs = record { pieces = characters xs ∷ []; put_is = append-nil xs; text_is = append-nil xs }
 
-both_texts : (a b c d : List ℕ) → IsWrapped a b → IsWrapped c d → IsWrapped (a ++ c) (b ++ d)
+pub both_texts : (a b c d : List ℕ) → IsWrapped a b → IsWrapped c d → IsWrapped (a ++ c) (b ++ d)
 both_texts a b c d p q = record {
   pieces = p.pieces ++ q.pieces;
   put_is = pieces_append as_put p.pieces q.pieces ∙ rw (p.put_is, q.put_is) refl;
@@ -48,10 +48,10 @@ text_broken xs =
     (both_texts xs xs [] (0x0A ∷ []) (same_text xs) (record { pieces = between ∷ []; put_is = refl; text_is = refl }))
 
 -- of what was put a front is let go, and the rest is held
-record Lets (put : List ℕ) (out : LetGo) : Type 0 where
-  front : List ℕ
-  split : put ≡ front ++ out.1.row
-  is : IsWrapped front out.0
+pub record Lets (put : List ℕ) (out : LetGo) : Type 0 where
+  pub front : List ℕ
+  pub split : put ≡ front ++ out.1.row
+  pub is : IsWrapped front out.0
 
 ended_line : (w : FlatWrapper) → Lets (w.row ++ 0x0A ∷ []) (row_ended w)
 ended_line w =
@@ -104,7 +104,7 @@ unfolding cut
 cut_lets w = cut_lets_at w (last_blank w.row) refl
 
 -- one let go after another
-lets_both : (put more : List ℕ) (first second : LetGo) → Lets put first → Lets (first.1.row ++ more) second
+pub lets_both : (put more : List ℕ) (first second : LetGo) → Lets put first → Lets (first.1.row ++ more) second
     → Lets (put ++ more) (first.0 ++ second.0, second.1)
 lets_both put more first second a b = record {
   front = a.front ++ b.front;
@@ -128,7 +128,7 @@ char_lets_by w c false false true line_is blank_is = placed_lets w c
 char_lets_by w c false false false line_is blank_is =
     lets_both w.row (c ∷ []) (cut w) (placed (cut w).1 c) (cut_lets w) (placed_lets (cut w).1 c)
 
-char_lets : (w : FlatWrapper) (c : ℕ) → Lets (w.row ++ c ∷ []) (wrapped_char w c)
+pub char_lets : (w : FlatWrapper) (c : ℕ) → Lets (w.row ++ c ∷ []) (wrapped_char w c)
 unfolding wrapped_char
 char_lets w c = char_lets_by w c (c == 0x0A) (c == 0x20) (fits w c) refl refl
 
@@ -214,7 +214,7 @@ let_go_some w c cs =
 -- ---- no row is too wide
 
 -- the columns of the last row that are taken after a text
-abbrev taken_after : ℕ → List ℕ → ℕ
+abbrev pub taken_after : ℕ → List ℕ → ℕ
 taken_after taken [] = taken
 taken_after taken (c ∷ cs) = if c == 0x0A then taken_after 0 cs else taken_after (taken + width_of c) cs
 
@@ -267,7 +267,7 @@ first_room : (limit c : ℕ) → has_room limit 0 c ≡ true
 unfolding has_room
 first_room limit c = grind (arith, nat_tests)
 
-stays_less : (limit s t : ℕ) (xs : List ℕ) → s ≤ t → stays_within limit t xs ≡ true → stays_within limit s xs ≡ true
+pub stays_less : (limit s t : ℕ) (xs : List ℕ) → s ≤ t → stays_within limit t xs ≡ true → stays_within limit s xs ≡ true
 unfolding stays_within
 stays_less limit s t [] less is = refl
 stays_less limit s t (c ∷ cs) less is =
@@ -284,7 +284,7 @@ stays_less limit s t (c ∷ cs) less is =
     ] is
 
 -- no line feed
-abbrev IsFree : List ℕ → Type 0
+abbrev pub IsFree : List ℕ → Type 0
 IsFree [] = Unit {0}
 IsFree (c ∷ cs) = ((c == 0x0A) ≡ false) × IsFree cs
 
@@ -302,17 +302,17 @@ taken_free taken [] free = omega arith
 taken_free taken (c ∷ cs) free = rw free.0 (taken_free (taken + width_of c) cs free.1 ∙ omega arith)
 
 -- the row of a wrapper: no line feed, and not too wide
-record IsRow (w : FlatWrapper) : Type 0 where
-  free : IsFree w.row
-  stays : stays_within w.limit w.gone w.row ≡ true
+pub record IsRow (w : FlatWrapper) : Type 0 where
+  pub free : IsFree w.row
+  pub stays : stays_within w.limit w.gone w.row ≡ true
 
-record IsWithin (limit taken : ℕ) (out : LetGo) : Type 0 where
-  stays : stays_within limit taken out.0 ≡ true
-  next : taken_after taken out.0 ≡ out.1.gone
-  row : IsRow out.1
-  limit_is : out.1.limit ≡ limit
+pub record IsWithin (limit taken : ℕ) (out : LetGo) : Type 0 where
+  pub stays : stays_within limit taken out.0 ≡ true
+  pub next : taken_after taken out.0 ≡ out.1.gone
+  pub row : IsRow out.1
+  pub limit_is : out.1.limit ≡ limit
 
-none_row : (limit : ℕ) → IsRow (no_row limit)
+pub none_row : (limit : ℕ) → IsRow (no_row limit)
 unfolding stays_within
 none_row limit = record { free = tt; stays = refl }
 
@@ -320,7 +320,7 @@ line_stays : (limit taken : ℕ) → stays_within limit taken (0x0A ∷ []) ≡ 
 unfolding stays_within
 line_stays limit taken = refl
 
-none_stays : (limit taken : ℕ) → stays_within limit taken [] ≡ true
+pub none_stays : (limit taken : ℕ) → stays_within limit taken [] ≡ true
 unfolding stays_within
 none_stays limit taken = refl
 
@@ -424,7 +424,7 @@ char_within_by w c false false false line_is r =
     (subst (λ (n : ℕ). IsWithin n (cut w).1.gone (placed (cut w).1 c)) first.limit_is
     (placed_within (cut w).1 c line_is first.row))
 
-char_within : (w : FlatWrapper) (c : ℕ) → IsRow w → IsWithin w.limit w.gone (wrapped_char w c)
+pub char_within : (w : FlatWrapper) (c : ℕ) → IsRow w → IsWithin w.limit w.gone (wrapped_char w c)
 unfolding wrapped_char
 char_within w c r = char_within_by w c (c == 0x0A) (c == 0x20) (fits w c) refl r
 

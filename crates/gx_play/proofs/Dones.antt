@@ -41,6 +41,7 @@ use Rattle.gx_play.proofs.Loads.{loadable, text-loadable}
 use Rattle.gx_play.proofs.Seeds.{undrawn, settled}
 use Rattle.gx_play.proofs.Spellings.{spelling}
 use Rattle.gx_play.proofs.Works.{works}
+use Rattle.gx_play.proofs.WrappedEnds.{wraps_runs}
 use Rattle.gx_outside.specs.declared.devices.SendFault.TheVariants as of_send
 use Rattle.gx_play.specs.declared.loading.Refusal.TheVariants as refusal
 
@@ -424,6 +425,7 @@ module _ {A : Type 0} (ended : Ended A) where
           works = works;
           spelling = spelling;
           wrapping = wrapping_keeps;
+          wrapped = wraps_runs;
         }
 
     -- no device was called
@@ -475,6 +477,7 @@ module _ {A : Type 0} (ended : Ended A) where
           works = works;
           spelling = spelling;
           wrapping = wrapping_keeps;
+          wrapped = wraps_runs;
         }
 
     unread-comes : (o : Option Command) → entry.sends ≡ [] → entry.asked ≡ []
@@ -516,4 +519,5 @@ module _ {A : Type 0} (ended : Ended A) where
           works = works;
           spelling = spelling;
           wrapping = wrapping_keeps;
+          wrapped = wraps_runs;
         }

@@ -18,4 +18,6 @@ pub mod Sums
 pub mod Tellings
 pub mod Told
 pub mod Works
+pub mod WrappedEnds
+pub mod WrappedMoves
 mod RunParts

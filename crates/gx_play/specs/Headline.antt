@@ -52,9 +52,10 @@
 --   columns as it comes (`wrapped_char` in glk_screen/specs/Wrapper). A row that isn't full is held back, and is no
 --   text before it is full or ends, or a wait, a prompt or the end of the run lets it go. Whatever characters come,
 --   what is let go and what is held is these characters, but for the breaks: each took the place of one blank, or was
---   added between two characters. And no row is wider, but for one that a single character makes so (`wrapping`). That
---   the characters which come are those of the same run without `--wrap` is not said: that no definition of a Glk call
---   looks at the present row is seen by reading them.
+--   added between two characters. And no row is wider, but for one that a single character makes so (`wrapping`). The
+--   characters which come are those of the same run without `--wrap` (`wrapped`, with `IsWrappedRun` of specs/Wrapped):
+--   that run stops in the same way, with the same machine, input, calls of the shelf and objects of Glk, and the texts
+--   of both are made of the same parts. Only where text is sent differs, since the one has other bytes than the other.
 --
 -- The random words are the device's, or with `--seed` those of specs/Seeds. Then the device isn't asked for any, in any
 -- job and whatever the end (`undrawn`), and the outcome is the same for any other words that it might hold (`settled`).
@@ -124,7 +125,8 @@
 --
 -- The definitions on which the contract stands, in the order of reading: Outcomes (what a command line comes to),
 -- Answers (what is answered and left behind then, with a run or without one), FirstLoad (the one load of the file),
--- Statuses (what goes with each status); Commands, Jobs, Rewinding, Seeds, Spelling and Constants, which these name.
+-- Statuses (what goes with each status), Wrapped (a run with `--wrap` beside the same without it); Commands, Jobs,
+-- Rewinding, Seeds, Spelling and Constants, which these name.
 -- Loading, Reading and Silent are no part of it: they are what the contracts of the parts of `play` need.
 use Rattle.std.specs.Prelude.{◌≡◌, ◌≢◌, ℕ, List, ◌⊎◌, ◌↔◌, true, Option, None, IsSome, IfSome, IsSomeAnd}
 use Rattle.std.specs.Option.{option_and_then}
@@ -145,6 +147,7 @@ use Rattle.gx_play.specs.Outcomes.{outcome_of, status_of_outcome}
 use Rattle.gx_play.specs.Answers.{IsUnbegun, Plays}
 use Rattle.gx_play.specs.FirstLoad.{LoadsFirst, JobMayWant}
 use Rattle.gx_play.specs.Statuses.{PlaysStory, HasItsParts}
+use Rattle.gx_play.specs.Wrapped.{WrapsRuns}
 use Rattle.rand_core.specs.Stream.{Stream}
 use Rattle.gx_session.specs.Counts.{FailureCounts}
 
@@ -189,3 +192,4 @@ pub record IsPlayed {A : Type 0} (command : Option Command) (entry exit : Device
   pub works : (number : ℕ) → IsSome (work_machine number)
   pub spelling : IsSpelling
   pub wrapping : WrappingKeeps
+  pub wrapped : WrapsRuns

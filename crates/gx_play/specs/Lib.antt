@@ -12,3 +12,4 @@ pub mod Constants
 pub mod Loading
 pub mod Reading
 pub mod Silent
+pub mod Wrapped
