@@ -21,7 +21,8 @@ use Rattle.glk_object_calls.specs.References.{fileref_create_temp, fileref_creat
 use Rattle.glk_object_calls.specs.References.{fileref_create_from_fileref, fileref_destroy, fileref_iterate}
 use Rattle.glk_object_calls.specs.References.{fileref_get_rock, fileref_delete_file, fileref_does_file_exist}
 use Rattle.glk_dispatch.specs.declared.table.ObjectClass.TheVariants.{Window, Stream, Reference}
-use Rattle.glk_dispatch.specs.CallRows.{CallRow, row_with, on, maybe_on, naming, giving, plain, looking, taking_turn, idles}
+use Rattle.glk_dispatch.specs.CallRows.{CallRow, row_with, on, maybe_on, naming, giving, plain, looking, taking_turn}
+use Rattle.glk_dispatch.specs.CallRows.{idles}
 use Rattle.glk_dispatch.specs.CallRows.{wants, is_given, opens_file, opens_memory, answers, turns}
 
 -- glk_exit ("Exiting Your Program")

@@ -15,7 +15,8 @@ use Rattle.glk_text_calls.specs.Characters.{char_to_case, buffer_to_case, buffer
 use Rattle.glk_event_calls.specs.Events.{may_ask, request_line_event, request_char_event, cancel_line_event}
 use Rattle.glk_event_calls.specs.Events.{cancel_char_event, select_poll, select}
 use Rattle.glk_dispatch.specs.declared.table.ObjectClass.TheVariants.{Window, Stream}
-use Rattle.glk_dispatch.specs.CallRows.{CallRow, row_with, on, giving, plain, looking, idles, wants, is_given, opens_file}
+use Rattle.glk_dispatch.specs.CallRows.{CallRow, row_with, on, giving, plain, looking, idles, wants, is_given}
+use Rattle.glk_dispatch.specs.CallRows.{opens_file}
 use Rattle.glk_dispatch.specs.CallRows.{opens_memory, answers, turns}
 
 -- for a request of a window

@@ -1,5 +1,5 @@
-//! Saves as the bytes of a stream (Glulx 3.1.2, "Game State"; specs/PuttingSaves): they are put as characters, and got from
-//! where the stream stands to its end.
+//! Saves as the bytes of a stream (Glulx 3.1.2, "Game State"; specs/PuttingSaves): they are put as characters, and got
+//! from where the stream stands to its end.
 ghost use Rattle.std.specs.Prelude.{ℕ, ◌≡◌, ◌≢◌, ◌<◌, ◌≤◌, ◌^◌, ◌+◌, ◌⊎◌, List, [], length, take, drop, IfOk, IfSome};
 ghost use Rattle.std.specs.Prelude.{OnErr, IsTrue, Ok, Some, None};
 ghost use Rattle.gx_state.specs.Replies.{IsReply};
@@ -10,7 +10,8 @@ ghost use Rattle.glk_world.specs.Putting.{places_read};
 ghost use Rattle.glk_world.specs.Calls.{chars_got};
 ghost use Rattle.glk_replies.specs.Parts.{IsCharWidth, reply_filling, MayWant};
 ghost use Rattle.glk_text_calls.specs.Putting.{put_all};
-ghost use Rattle.glk_text_calls.specs.PuttingSaves.{takes_save, put_save, put_save_grows, rest_len, as_bytes, take_rest};
+ghost use Rattle.glk_text_calls.specs.PuttingSaves.{takes_save, put_save, put_save_grows, rest_len, as_bytes};
+ghost use Rattle.glk_text_calls.specs.PuttingSaves.{take_rest};
 ghost use Rattle.glk_text_calls.specs.PuttingSaves.{take_rest_grows};
 
 use crate::input::{Reading, read_on};

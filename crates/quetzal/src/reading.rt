@@ -26,7 +26,8 @@ use std::alloc::Global;
 /// sorted to see whether two of them meet; where memory for that is refused, it isn't seen.
 #[tactic(auto, using(crate::proofs::SaveReading::parts_refused))]
 pub fn read_save(alloc: Global, bytes: &[u8], story: &Story) -> Result<FlatCopy, SaveFault>
-    ensures value { MaySort (MayMeet bytes.now story.now) (λ copy. copy) result (copy_in_save ceiling bytes.now story.now) }
+    ensures value { MaySort (MayMeet bytes.now story.now) (λ copy. copy) result
+        (copy_in_save ceiling bytes.now story.now) }
     ensures sound { IfOk result (λ copy. IsCopyFor story.now copy) }
 {
     let parts = Parts::find(bytes, story)?;
