@@ -1,5 +1,5 @@
 -- The calls of windows, streams and file references, in both views.
-use Rattle.std.proofs.Common.{◌≡◌, ℕ, zero, suc, ◌+◌, ◌==◌, not, Bool, true, false, if◌then◌else◌, List, [], ◌∷◌, ◌++◌}
+use Rattle.std.proofs.Common.{◌≡◌, ℕ, zero, suc, ◌+◌, ◌==◌, ◌&&◌, not, Bool, true, false, if◌then◌else◌, List, [], ◌∷◌, ◌++◌}
 use Rattle.std.proofs.Common.{length, Option, Some, None, refl}
 use Rattle.std.specs.Prelude.{codes, decimal}
 use Rattle.gx_outside.specs.declared.devices.Load.{Load}
@@ -178,7 +178,8 @@ module _ (rows : Bool) (limit : ℕ) where
   unfolding stream_open_file
   opens_file_stream selector r w args =
       comes_if rows limit (arg args 1 == write_mode) (turned rows limit (opens r w selector args []))
-      (comes_if rows limit (mode_loads (arg args 1)) (comes_to (quiet rows limit r (waits w selector args)))
+      (comes_if rows limit (mode_loads (arg args 1) && is_identifier w.next_id)
+      (comes_to (quiet rows limit r (waits w selector args)))
       (comes_to (quiet rows limit r w)))
 
   pub open_goes : (r : FlatWrapper) (w : Scene) (selector : ℕ) (args : List ℕ) (load : Load)
