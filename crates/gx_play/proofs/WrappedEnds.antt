@@ -1,5 +1,5 @@
 -- The ends of a run in a view that wraps, and of the same run in the view that doesn't.
-use Rattle.std.proofs.Common.{◌≡◌, ℕ, zero, suc, ◌+◌, ◌<◌, ◌≤◌, Bool, true, false, List, [], ◌∷◌, ◌++◌, Option, refl, sym, ◌∙◌, ap, subst}
+use Rattle.std.proofs.Common.{◌≡◌, ℕ, zero, suc, ◌+◌, ◌<◌, ◌≤◌, Bool, true, false, List, [], ◌∷◌, ◌++◌, refl, sym, ◌∙◌, ap, subst}
 use Rattle.std.proofs.Common.{arith}
 use Rattle.std.proofs.lemmas.List.{append-nil}
 use Rattle.glk_screen.specs.Wrapper.{FlatWrapper, no_row}
@@ -13,14 +13,13 @@ use Rattle.glk_views.proofs.Says.{end_says}
 use Rattle.glk_replies.specs.declared.Given.TheVariants as given
 use Rattle.gx_session.specs.declared.ends.Stop.{Stop}
 use Rattle.gx_session.specs.Sending.{pending}
-use Rattle.gx_session.specs.Configurations.{Phase, Configuration, Verdict, steps, asks, goes_on, moves_to, stops}
+use Rattle.gx_session.specs.Configurations.{Phase, Configuration, Verdict, steps, asks, goes_on}
 use Rattle.gx_session.specs.Moves.{move_of, sends_now, all_sent}
 use Rattle.gx_session.specs.Session.{RunEnd, stop_of, final_of}
 use Rattle.gx_session.specs.Standing.{act_of}
 use Rattle.gx_session.proofs.Parts.{moves_left, with_last_screen}
 use Rattle.gx_session.proofs.Finals.{goes-nearer, stop-stays, stop-comes, move-sends, move-acts}
-use Rattle.gx_play.specs.Outcomes.{start_for}
-use Rattle.gx_play.specs.Wrapped.{unwrapped, none_taken, IsWrappedRun, WrapsRuns}
+use Rattle.gx_play.specs.Wrapped.{none_taken, IsWrappedRun, start_with_input, WrapsRuns}
 use Rattle.gx_play.proofs.WrappedMoves.{Worlds, with_line, Runs, runs, Verdicts, both_move, both_stop, world_says, acts}
 
 end_held : (rows : Bool) (r : FlatWrapper) (w : Scene) → (end_text (in_wrapping rows r w)).0.row.row ≡ []
@@ -134,12 +133,12 @@ module _ (rows : Bool) (columns : ℕ) (input : List ℕ) where
       (none_after rows columns (no_row columns) input both.1)
 
 pub wraps_runs : WrapsRuns
-wraps_runs grids command whole log entry =
+wraps_runs grids command whole log entry input answers =
     let columns = command.columns in
     let world1 : FlatWorld = empty_world (wrapping_view grids) columns command.rows in
     let world2 : FlatWorld = empty_world (plain_view grids) columns command.rows in
     let new : Worlds grids columns (no_row columns) 0 world1 world2 =
     record { scene = world2.scene; parts = []; wraps = refl; comes = refl; lines = omega arith } in
-    let start1 : Configuration = start_for (record command { view = wrapping_view grids }) whole log entry in
-    let start2 : Configuration = start_for (record command { view = plain_view grids }) whole log entry in
-    wraps_from grids columns entry.source.left start1 start2 (runs start2 world1 world2 [] [] 0 none_taken new)
+    let start1 : Configuration = start_with_input (wrapping_view grids) command whole log entry input answers in
+    let start2 : Configuration = start_with_input (plain_view grids) command whole log entry input answers in
+    wraps_from grids columns input start1 start2 (runs start2 world1 world2 [] [] 0 none_taken new)

@@ -1,11 +1,10 @@
 -- What comes next in a run in a view that wraps, beside the same in the view that doesn't.
-use Rattle.std.proofs.Common.{◌≡◌, ◌≤◌, ℕ, zero, suc, ◌+◌, arith, ◌-◌, ◌==◌, nat_lt, if◌then◌else◌, Bool, true, false, List, [], ◌∷◌, ◌++◌, Option, Some, None}
-use Rattle.std.proofs.Common.{unwrap_or, option_and_then, Result, Ok, Err, append_assoc, refl, sym, ◌∙◌, ap, subst}
+use Rattle.std.proofs.Common.{◌≡◌, ◌≤◌, ℕ, suc, ◌+◌, arith, ◌-◌, ◌==◌, nat_lt, if◌then◌else◌, Bool, true, false, List, [], ◌∷◌, ◌++◌, Option, Some, None}
+use Rattle.std.proofs.Common.{unwrap_or, option_and_then, Result, Ok, Err, refl, sym, ◌∙◌, ap, subst}
 use Rattle.std.specs.Result.{result_ok}
 use Rattle.std.specs.Str.{encode_utf8_all}
 use Rattle.gx_words.specs.declared.faults.Fault.{Fault}
 use Rattle.gx_words.specs.Constants.{ceiling, glk_system}
-use Rattle.gx_words.specs.Results.{◌>>=◌}
 use Rattle.gx_outside.specs.Shelves.{Request, Answer, loaded, was_stored, was_there}
 use Rattle.gx_state.specs.Flat.{FlatState}
 use Rattle.gx_state.specs.Copies.{Copy}
@@ -18,7 +17,7 @@ use Rattle.gx_machine.specs.Answer.{answer_of}
 use Rattle.gx_machine.specs.Step.{cost_of, step_of}
 use Rattle.glk_screen.specs.Wrapper.{FlatWrapper, LetGo}
 use Rattle.glk_screen.proofs.Flowing.{enc_append}
-use Rattle.glk_world.specs.World.{FlatWorld, Scene, Said, Outcome, silent, after}
+use Rattle.glk_world.specs.World.{FlatWorld, Scene, Said, Outcome, after}
 use Rattle.glk_world.specs.Shown.{show_grids, show_line}
 use Rattle.glk_replies.specs.declared.Turn.{Turn}
 use Rattle.glk_replies.specs.declared.Turn.TheVariants as turn
@@ -28,7 +27,6 @@ use Rattle.glk_replies.specs.Parts.{replies}
 use Rattle.glk_dispatch.specs.Calls.{glk_call}
 use Rattle.glk_dispatch.specs.Going.{glk_go_on}
 use Rattle.glk_text_calls.specs.Output.{putting}
-use Rattle.glk_text_calls.specs.PuttingSaves.{put_save, take_rest}
 use Rattle.glk_views.specs.Parts.{Part, as_it_comes, lines_taken, wrapped}
 use Rattle.glk_views.specs.Beside.{in_wrapping, in_plain, SaysBeside, ComesBeside, comes_to, fails}
 use Rattle.glk_views.specs.Calls.{lines_in}
@@ -47,7 +45,7 @@ use Rattle.gx_session.specs.Constants.{failed}
 use Rattle.gx_session.specs.Input.{NextLine, too_long, none, line, next_line}
 use Rattle.gx_session.specs.Saving.{saving, restoring}
 use Rattle.gx_session.specs.Configurations.{Phase, Configuration, Verdict, steps, asks, goes_on, moves_to, stops}
-use Rattle.gx_session.specs.Moves.{event_done, after_reply, asking_for, after_turn, after_given, after_line, given_of, request_of}
+use Rattle.gx_session.specs.Moves.{event_done, after_reply, asking_for, after_turn, after_given, after_line, given_of}
 use Rattle.gx_session.specs.Moves.{shelf_gives, after_restoring, after_effect, act_by}
 use Rattle.gx_play.specs.Wrapped.{TakesLines, one_more}
 

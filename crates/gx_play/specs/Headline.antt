@@ -52,10 +52,12 @@
 --   columns as it comes (`wrapped_char` in glk_screen/specs/Wrapper). A row that isn't full is held back, and is no
 --   text before it is full or ends, or a wait, a prompt or the end of the run lets it go. Whatever characters come,
 --   what is let go and what is held is these characters, but for the breaks: each took the place of one blank, or was
---   added between two characters. And no row is wider, but for one that a single character makes so (`wrapping`). The
---   characters which come are those of the same run without `--wrap` (`wrapped`, with `IsWrappedRun` of specs/Wrapped):
---   that run stops in the same way, with the same machine, input, calls of the shelf and objects of Glk, and the texts
---   of both are made of the same parts. Only where text is sent differs, since the one has other bytes than the other.
+--   added. And no row is wider, but for one that a single character makes so; a row begins anew after a line that was
+--   taken (`wrapping`). The characters that come are those of the same run without `--wrap` (`wrapped`, with
+--   `IsWrappedRun` of specs/Wrapped): with whatever input and answers of the shelf, that run stops in the same way, with
+--   the same machine, input, calls of the shelf and objects of Glk, and the texts of both are made of the same parts.
+--   Only where text is sent differs, since the one has other bytes than the other. Of runs that are cut short this law
+--   says nothing.
 --
 -- The random words are the device's, or with `--seed` those of specs/Seeds. Then the device isn't asked for any, in any
 -- job and whatever the end (`undrawn`), and the outcome is the same for any other words that it might hold (`settled`).
@@ -72,14 +74,15 @@
 -- what the calls make of them, but for the one that a refused store or remove leaves open (`shelf_calls`). What a
 -- source and a sink that tell hold at the end follows likewise (`source_calls`, `sink_calls`).
 --
--- Text is sent before the shelf or the source is asked for anything. Each read of the source has room for 4,096 bytes,
--- and none is read where no line is awaited. Fewer than 4,096 bytes are read ahead of the lines that were taken. There
--- are three exceptions: a line that was awaited and is too long; one in which the source failed (then fewer than
--- 65,536; `LeavesInput` of gx_session/specs/Reads); and one in which memory was wanted, of which nothing is said.
+-- Text is sent before the shelf or the source is asked for anything (below it is said why: no clause sets the calls of
+-- two devices in order). Each read of the source has room for 4,096 bytes, and none is read where no line is awaited.
+-- Fewer than 4,096 bytes are read ahead of the lines that were taken. There are three exceptions: a line that was
+-- awaited and is too long; one in which the source failed (then fewer than 65,536; `LeavesInput` of
+-- gx_session/specs/Reads); and one in which memory was wanted, of which nothing is said.
 --
--- The status blames a device exactly if a call of it failed in this run, which was then its last one (`counts`). If the
--- source and the shelf tell what they hold and no count of failures rose, the status is the outcome's, or memory ran
--- out (`complete`). Every session comes to its stop by a move, so that `final_in` of gx_session/specs/Session is never
+-- The status blames a device exactly if a call of it failed in this run, which was then its last one (`counts`; of a
+-- counter that is at the end of its type nothing is said). If the source and the shelf tell what they hold and no count
+-- of failures rose, the status is the outcome's, or memory ran out (`complete`). Every session comes to its stop by a move, so that `final_in` of gx_session/specs/Session is never
 -- left without moves (`StopsByMove` there).
 --
 -- Each restoreundo of the session goes back to the newest saveundo that was neither used, nor discarded, nor dropped as
@@ -96,8 +99,8 @@
 -- has left; for a real one it is the bytes that its reads gave, one after another, and some that may be still to come
 -- (`GiveInput` of gx_session/specs/Reads). Which bytes a sink was handed, call by call, is said of every sink; which of
 -- them it took, of one that tells. What a call does to a device, `called`, may be no more than how it is counted, as
--- with the program's own devices. That the calls here are those that were made rests on `play` being proved for every
--- source, sink and shelf.
+-- with the program's own devices. For these no clause says that the calls here are those that were made: that rests on
+-- `play` being proved for every source, sink and shelf.
 --
 -- Each of the three devices has a trace of its own. No clause sets a call of one beside a call of another, but their
 -- order follows. Any of them may fail at any call, and `play` can't know that a call will fail before it is made. If

@@ -3,8 +3,10 @@ use Rattle.std.specs.Prelude.{◌≡◌, ◌≤◌, ℕ, suc, Bool, List, [], Op
 use Rattle.std.specs.Str.{encode_utf8_all}
 use Rattle.gx_machine.specs.Machine.{Whole}
 use Rattle.gx_machine.specs.Log.{Log}
+use Rattle.gx_outside.specs.Shelves.{Request, Answer, Trace}
 use Rattle.glk_screen.specs.Wrapper.{no_row}
 use Rattle.glk_screen.specs.Laws.{IsWrapped}
+use Rattle.glk_world.specs.declared.views.View.{View}
 use Rattle.glk_world.specs.World.{FlatWorld}
 use Rattle.glk_views.specs.Parts.{Part, as_it_comes, lines_taken, wrapped}
 use Rattle.glk_views.specs.Laws.{RowsStay}
@@ -48,9 +50,17 @@ pub record IsWrappedRun (grids : Bool) (columns : ℕ) (input : List ℕ) (with_
   pub takes : TakesLines input count without.configuration.input
   pub lines : lines_taken parts ≤ count
 
--- THE RUN OF A COMMAND WITH `--wrap`, with rows of grids or without them, is so beside its run without `--wrap`.
+-- the configuration in which a command's run begins in this view, with this input and these answers of the shelf
+abbrev pub start_with_input : View → Command → Whole → Option Log → Devices → List ℕ → (Trace → Request → Answer)
+    → Configuration
+start_with_input v command whole log entry input answers =
+    record (start_for (record command { view = v }) whole log entry) { input = input; answers = answers }
+
+-- THE RUN OF A COMMAND WITH `--wrap`, with rows of grids or without them, is so beside its run without `--wrap`, with
+-- whatever input and answers of the shelf.
 abbrev pub WrapsRuns : Type 0
-WrapsRuns = (grids : Bool) (command : Command) (whole : Whole) (log : Option Log) (entry : Devices)
-    → IsWrappedRun grids command.columns entry.source.left
-    (final_of (start_for (record command { view = wrapping_view grids }) whole log entry))
-    (final_of (start_for (record command { view = plain_view grids }) whole log entry))
+WrapsRuns = (grids : Bool) (command : Command) (whole : Whole) (log : Option Log) (entry : Devices) (input : List ℕ)
+    (answers : Trace → Request → Answer)
+    → IsWrappedRun grids command.columns input
+    (final_of (start_with_input (wrapping_view grids) command whole log entry input answers))
+    (final_of (start_with_input (plain_view grids) command whole log entry input answers))
