@@ -54,10 +54,10 @@
 --   what is let go and what is held is these characters, but for the breaks: each took the place of one blank, or was
 --   added. And no row is wider, but for one that a single character makes so; a row begins anew after a line that was
 --   taken (`wrapping`). The characters that come are those of the same run without `--wrap` (`wrapped`, with
---   `IsWrappedRun` of specs/Wrapped): with whatever input and answers of the shelf, that run stops in the same way, with
---   the same machine, input, calls of the shelf and objects of Glk, and the texts of both are made of the same parts.
---   Only where text is sent differs, since the one has other bytes than the other. Of runs that are cut short this law
---   says nothing.
+--   `IsWrappedRun` of specs/Wrapped): with whatever input and answers of the shelf, that run stops in the same way,
+--   with the same machine, input, calls of the shelf and objects of Glk, and the texts of both are made of the same
+--   parts. Only where text is sent differs, since the one has other bytes than the other. Of runs that are cut short
+--   this law says nothing.
 --
 -- The random words are the device's, or with `--seed` those of specs/Seeds. Then the device isn't asked for any, in any
 -- job and whatever the end (`undrawn`), and the outcome is the same for any other words that it might hold (`settled`).
@@ -82,8 +82,8 @@
 --
 -- The status blames a device exactly if a call of it failed in this run, which was then its last one (`counts`; of a
 -- counter that is at the end of its type nothing is said). If the source and the shelf tell what they hold and no count
--- of failures rose, the status is the outcome's, or memory ran out (`complete`). Every session comes to its stop by a move, so that `final_in` of gx_session/specs/Session is never
--- left without moves (`StopsByMove` there).
+-- of failures rose, the status is the outcome's, or memory ran out (`complete`). Every session comes to its stop by a
+-- move, so that `final_in` of gx_session/specs/Session is never left without moves (`StopsByMove` there).
 --
 -- Each restoreundo of the session goes back to the newest saveundo that was neither used, nor discarded, nor dropped as
 -- the oldest (`LastsUndo` of gx_session/specs/Undoing), whatever was restored from files in between. The protected
