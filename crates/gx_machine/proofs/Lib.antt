@@ -1,10 +1,13 @@
 pub mod Answers
 pub mod Charges
 pub mod Costs
+pub mod Fetching
 pub mod Passing
+pub mod Pops
 pub mod Reading
 pub mod Starts
 pub mod Steps
+pub mod Streams
 pub mod Tries
 pub mod Opened
 pub mod Games

@@ -2,8 +2,8 @@
 use Rattle.gx_stack.specs.Calls as calls
 use Rattle.gx_state.specs.Calls.{pushed, pushed_all, with_local}
 use Rattle.gx_state.specs.Stores.{store_fault}
-use Rattle.ops_flow.specs.FlowRows.{computes, jumps, flow, call, callf}
-use Rattle.ops_memory.specs.MemoryRows.{memory, aload, aloads, aloadb, aloadbit, astore, astores, astoreb}
+use Rattle.ops_flow.specs.FlowRows.{computes, jumps, flow, callf}
+use Rattle.ops_memory.specs.MemoryRows.{memory, copy, aload, aloads, aloadb, astore, astores, astoreb}
 
 -- a store in a local, on both levels
 unfoldable pub setting_local : Unit {0}
@@ -17,7 +17,7 @@ pushing = tt
 
 -- the rows that a shape of operands may have
 unfoldable pub rows_of_two_and_store : Unit {0}
-unfolding computes flow call callf memory aload aloads aloadb aloadbit
+unfolding computes flow callf memory aload aloads aloadb
 rows_of_two_and_store = tt
 
 unfoldable pub rows_of_three : Unit {0}
@@ -25,5 +25,5 @@ unfolding jumps memory astore astores astoreb
 rows_of_three = tt
 
 unfoldable pub rows_of_one_and_store : Unit {0}
-unfolding computes flow callf
+unfolding computes flow callf copy
 rows_of_one_and_store = tt

@@ -1,108 +1,112 @@
--- An instruction that begins to print, drops a character, or calls the filter with one; and one that asks for a
--- character to be put.
-use Rattle.std.proofs.Common.{◌≡◌, ◌≤◌, ◌-◌, ◌*◌, ℕ, suc, Bool, true, false, Some, None, Ok, Result}
+-- An instruction that begins to print, drops a character, or calls the filter with one.
+use Rattle.std.proofs.Common.{◌≡◌, ◌≤◌, ◌+◌, ◌%◌, ℕ, suc, Bool, true, false, [], ◌∷◌, length, Some, None, Ok, Result}
 use Rattle.std.proofs.Common.{refl, ap, subst, sym, ◌∙◌}
 use Rattle.gx_words.specs.declared.faults.Fault.{Fault}
+use Rattle.gx_words.specs.declared.strings.Printing.{Printing}
+use Rattle.gx_words.specs.declared.strings.PrintKind.TheVariants.{Number}
 use Rattle.gx_words.specs.Results.{◌>>=◌}
-use Rattle.gx_rows.specs.declared.instructions.Row.{Row}
+use Rattle.gx_words.specs.Numbers.{byte}
+use Rattle.gx_rows.specs.declared.instructions.Class.{Class}
+use Rattle.gx_rows.specs.declared.instructions.Class.TheVariants as class
 use Rattle.gx_rows.specs.Numbers as numbers
 use Rattle.gx_rows.specs.Table.{table, row_of}
-use Rattle.gx_state.specs.declared.effects.Effect.{Effect}
-use Rattle.gx_state.specs.declared.effects.Effect.TheVariants.{Put}
-use Rattle.gx_state.specs.declared.modes.Dest.{Dest}
+use Rattle.gx_strings.specs.Objects.{string_at}
+use Rattle.gx_state.specs.declared.effects.Effect.TheVariants.{Went}
 use Rattle.gx_state.specs.declared.modes.Dest.TheVariants.{Nowhere}
 use Rattle.gx_state.specs.declared.modes.Mode.TheVariants.{Running}
-use Rattle.gx_state.specs.Flat.{FlatState, IsHeight, sp_of}
-use Rattle.gx_operands.specs.declared.reading.Loads.{Loads}
-use Rattle.gx_operands.specs.Instructions.{Operands, Instruction, opcode, instruction, all_operands}
-use Rattle.gx_operands.specs.Short.{IsShort, operands_by}
-use Rattle.gx_operands.specs.Tries.{Tries}
+use Rattle.gx_state.specs.Flat.{FlatState}
+use Rattle.gx_operands.specs.declared.cursor.Cursor.{Cursor}
+use Rattle.gx_operands.specs.Instructions.{Instruction, opcode, load}
 use Rattle.gx_undo.specs.Undo.{FlatUndo}
+use Rattle.ops_memory.specs.Costs.{probes_of}
+use Rattle.ops_print.specs.PrintRows.{streamchar, streamunichar, streamnum, streamstr}
 use Rattle.ops_print.specs.PrintRows as print
-use Rattle.ops_print.specs.Values.{printing_row, printing_by}
-use Rattle.gx_machine.specs.declared.askings.Asking.TheVariants as asking
-use Rattle.gx_machine.specs.Quick.{read_as}
+use Rattle.gx_machine.specs.Quick.{Tries, read_as, operands_read}
 use Rattle.gx_machine.specs.Advancing.{Passes}
-use Rattle.gx_machine.specs.Machine.{FlatMachine, Whole}
-use Rattle.gx_machine.specs.Starts.{IsPrintingRow, PrintsRow}
+use Rattle.gx_machine.specs.Machine.{Whole}
+use Rattle.gx_machine.specs.Starts.{IsStarted, begun_on, streamed_on}
 use Rattle.gx_machine.specs.MachineRows.{row_effect, with_copies}
 use Rattle.gx_machine.specs.Step.{mode_step, probes_in, stepped}
-use Rattle.gx_machine.specs.Views.{IsPendingAnswer}
-use Rattle.gx_machine.proofs.Answers.{print_pends}
 use Rattle.gx_machine.proofs.Costs.{probes_by}
 use Rattle.gx_machine.proofs.Passing.{joined}
-use Rattle.gx_machine.proofs.Tries.{instruction_is}
+use Rattle.gx_machine.proofs.Streams.{streaming, char_row, unichar_row, read_row}
 
--- the rows of the class
-pub char_row : row_of numbers.streamchar ≡ Some (printing_row numbers.streamchar)
-unfolding row_of table
-char_row = refl
-
-pub number_row : row_of numbers.streamnum ≡ Some (printing_row numbers.streamnum)
+number_row : row_of numbers.streamnum ≡ Some (streaming numbers.streamnum)
 unfolding row_of table
 number_row = refl
 
-pub string_row : row_of numbers.streamstr ≡ Some (printing_row numbers.streamstr)
+string_row : row_of numbers.streamstr ≡ Some (streaming numbers.streamstr)
 unfolding row_of table
 string_row = refl
 
-pub unichar_row : row_of numbers.streamunichar ≡ Some (printing_row numbers.streamunichar)
-unfolding row_of table
-unichar_row = refl
+pub started_number : (f g : FlatState) (modes first a : ℕ) (p : Cursor) → opcode f ≡ Ok (numbers.streamnum, modes)
+    → modes + 1 ≤ length f.memory → first ≡ byte f.memory modes
+    → load f 4 (first % 16) (record { at = modes + 1; popped = 0 }) ≡ Ok (a, p)
+    → g ≡ begun_on f (record { kind = Number; at = a; bit = 0; started = false }) p → IsStarted f g
+unfolding streamnum
+started_number f g modes first a p read there is one begun = record {
+  i = read_as f (streaming numbers.streamnum) (operands_read (a ∷ []) Nowhere false p);
+  reads = read_row f numbers.streamnum modes first a p number_row read there is one;
+  prints = refl;
+  goes = rw begun refl;
+}
 
-pub ruleset rows = (char_row, number_row, string_row, unichar_row)
+pub started_string : (f g : FlatState) (modes first a : ℕ) (p : Cursor) (string : Printing)
+    → opcode f ≡ Ok (numbers.streamstr, modes)
+    → modes + 1 ≤ length f.memory → first ≡ byte f.memory modes
+    → load f 4 (first % 16) (record { at = modes + 1; popped = 0 }) ≡ Ok (a, p)
+    → string_at f.memory a ≡ Ok string → g ≡ begun_on f string p → IsStarted f g
+unfolding streamstr
+started_string f g modes first a p string read there is one stands begun = record {
+  i = read_as f (streaming numbers.streamstr) (operands_read (a ∷ []) Nowhere false p);
+  reads = read_row f numbers.streamstr modes first a p string_row read there is one;
+  prints = refl;
+  goes = rw (stands, begun) refl;
+}
 
-pub short_row : (number : ℕ) → IsShort (printing_row number) 1 0
-short_row number = record { loads = refl; stores = refl; width = refl; in_order = refl }
+pub streamed_char : (f g : FlatState) (modes first a : ℕ) (p : Cursor) → opcode f ≡ Ok (numbers.streamchar, modes)
+    → modes + 1 ≤ length f.memory → first ≡ byte f.memory modes
+    → load f 4 (first % 16) (record { at = modes + 1; popped = 0 }) ≡ Ok (a, p)
+    → streamed_on f (a % 256) p ≡ Ok (g, Went) → IsStarted f g
+unfolding streamchar
+streamed_char f g modes first a p read there is one goes = record {
+  i = read_as f (streaming numbers.streamchar) (operands_read (a ∷ []) Nowhere false p);
+  reads = read_row f numbers.streamchar modes first a p char_row read there is one;
+  prints = refl;
+  goes = goes;
+}
 
-pub row_read : (f : FlatState) (number modes sp : ℕ) (l : Loads) (d : Dest) → row_of number ≡ Some (printing_row number)
-    → opcode f ≡ Ok (number, modes)
-    → ((row : Row) → IsShort row 1 0 → all_operands f row modes ≡ Ok (operands_by 1 0 l d)) → d ≡ Nowhere
-    → sp ≡ sp_of f - 4 * l.cursor.popped
-    → instruction f ≡ Ok (printing_by number l.first sp l.cursor.at)
-row_read f number modes sp l d row read operands nowhere is =
-    instruction_is f number modes (printing_row number) read (rw row refl)
-    ∙ ap (λ (r : Result Operands Fault). r >>= (λ (o : Operands). Ok (read_as f (printing_row number) o)))
-    (operands (printing_row number) (short_row number))
-    ∙ rw (nowhere, is) refl
+pub streamed_unichar : (f g : FlatState) (modes first a : ℕ) (p : Cursor) → opcode f ≡ Ok (numbers.streamunichar, modes)
+    → modes + 1 ≤ length f.memory → first ≡ byte f.memory modes
+    → load f 4 (first % 16) (record { at = modes + 1; popped = 0 }) ≡ Ok (a, p)
+    → streamed_on f a p ≡ Ok (g, Went) → IsStarted f g
+unfolding streamunichar
+streamed_unichar f g modes first a p read there is one goes = record {
+  i = read_as f (streaming numbers.streamunichar) (operands_read (a ∷ []) Nowhere false p);
+  reads = read_row f numbers.streamunichar modes first a p unichar_row read there is one;
+  prints = refl;
+  goes = goes;
+}
 
-pub ruleset reads = (row_read)
-
-pub prints_by : (f : FlatState) (number value sp next : ℕ) (does : FlatState × Effect)
-    → instruction f ≡ Ok (printing_by number value sp next)
-    → print.row_effect f (printing_by number value sp next) ≡ Ok does → IsPrintingRow f sp next does
-prints_by f number value sp next does reads prints =
-    record { number = number; value = value; reads = reads; prints = prints }
-
-pub prints_any : (f : FlatState) (number value sp next : ℕ) (does : FlatState × Effect)
-    → instruction f ≡ Ok (printing_by number value sp next)
-    → print.row_effect f (printing_by number value sp next) ≡ Ok does → PrintsRow f does
-prints_any f number value sp next does reads prints =
-    (sp, next, prints_by f number value sp next does reads prints)
-
-pub ruleset prints = (prints_by, prints_any)
+pub ruleset starts = (started_number, started_string, streamed_char, streamed_unichar)
 
 -- ---- its step
 
-pub row_steps : (f : FlatState) (does : FlatState × Effect) (sp next : ℕ) → IsPrintingRow f sp next does
-    → (u : FlatUndo) (word : ℕ)
-    → mode_step (record { flat = f; undo = u }) word Running ≡ Ok (record { flat = does.0; undo = u }, does.1)
-row_steps f does sp next s u word =
+effect_by : (c : Class) (u : FlatUndo) (f g : FlatState) (word : ℕ) (i : Instruction) → c ≡ class.Print
+    → print.row_effect f i ≡ Ok (g, Went)
+    → row_effect c (record { flat = f; undo = u }) word i ≡ Ok (record { flat = g; undo = u }, Went)
+effect_by c u f g word i is goes =
+    ap (λ (d : Class). row_effect d (record { flat = f; undo = u }) word i) is ∙ ap (with_copies u) goes
+
+pub started_steps : (f g : FlatState) → IsStarted f g → (u : FlatUndo) (word : ℕ)
+    → mode_step (record { flat = f; undo = u }) word Running ≡ Ok (record { flat = g; undo = u }, Went)
+started_steps f g s u word =
     ap (λ (r : Result Instruction Fault). r
     >>= (λ (i : Instruction). row_effect i.row.class (record { flat = f; undo = u }) word i)) s.reads
-    ∙ ap (with_copies u) s.prints
+    ∙ effect_by s.i.row.class u f g word s.i s.prints s.goes
 
-pub row_probes : (f : FlatState) (does : FlatState × Effect) (sp next : ℕ) → IsPrintingRow f sp next does
-    → probes_in f Running ≡ 0
-row_probes f does sp next s = ap (probes_by f) s.reads
-
-pub row_pends : (f : FlatState) (c sp next : ℕ) → f.mode ≡ Running → IsPrintingRow f sp next (f, Put c)
-    → IsHeight f sp → sp_of f ≤ f.stack.limit
-    → IsPendingAnswer f (record { asking = asking.Put; sp = sp; dest = Nowhere; next = next; mode = Running })
-row_pends f c sp next running s height fits =
-    print_pends f f (printing_by s.number s.value sp next) refl running s.reads refl height fits
-
-pub ruleset steps = (row_steps, row_probes)
+pub started_probes : (f g : FlatState) → IsStarted f g → probes_in f Running ≡ 0
+started_probes f g s = ap (probes_by f) s.reads ∙ ap (λ (d : Class). probes_of d f s.i) s.prints
 
 -- ---- steps after steps
 

@@ -22,8 +22,7 @@ use Rattle.gx_undo.specs.Undo.{FlatUndo}
 use Rattle.ops_memory.specs.Costs.{probes_of}
 use Rattle.ops_flow.proofs.Acts.{calc_act, branch_act}
 use Rattle.gx_machine.specs.Machine.{FlatMachine}
-use Rattle.gx_operands.specs.Tries.{Tries}
-use Rattle.gx_machine.specs.Quick.{IsPlain, IsQuick, quick_effect, IsQuickWriting, quick_row, IsRowWriting}
+use Rattle.gx_machine.specs.Quick.{Tries, IsPlain, IsQuick, quick_effect, IsQuickWriting, quick_row, IsRowWriting}
 use Rattle.gx_machine.specs.Quick.{read_as}
 use Rattle.gx_machine.specs.MachineRows.{row_effect, with_copies, IsWriting}
 use Rattle.gx_machine.specs.Step.{mode_step, probes_in, IsModeWriting}
@@ -59,6 +58,35 @@ two_plain place within two = let is = short place within in plain_by (row_at pla
 
 pub three_plain : (place : ℕ) → place < row_count → (row_at place).loads ≡ 3 → IsPlain (row_at place)
 three_plain place within three = let is = short place within in plain_by (row_at place) (grind (arith, nat_tests))
+
+-- a row that copies loads first
+is_copy : Class → Bool
+is_copy class.Copy = true
+is_copy class.Calc = false
+is_copy class.Branch = false
+is_copy class.Flow = false
+is_copy class.Memory = false
+is_copy class.Stack = false
+is_copy class.Print = false
+is_copy class.Game = false
+is_copy class.Glk = false
+
+abbrev copies_in_order : Row → Bool
+copies_in_order r = not (is_copy r.class && r.store_first)
+
+all_in_order : list_all copies_in_order table ≡ true
+unfolding table is_copy
+all_in_order = refl
+
+ordered_by : (c : Class) (first : Bool) → not (is_copy c && first) ≡ true → c ≡ class.Copy → first ≡ false
+unfolding is_copy
+ordered_by c first is copy = let ordered : not first ≡ true = (rw copy at is) in grind (arith, nat_tests)
+
+pub copy_in_order : (place : ℕ) → place < row_count → (row_at place).class ≡ class.Copy
+    → (row_at place).store_first ≡ false
+unfolding row_at
+copy_in_order place within copy = ordered_by (row_at place).class (row_at place).store_first
+    (AllPass-from_list_all copies_in_order table all_in_order place _ (omega (arith, rows_counted))) copy
 
 -- ---- a short row begins no probes
 
@@ -211,6 +239,7 @@ pub ruleset rows = (
   one_plain,
   two_plain,
   three_plain,
+  copy_in_order,
   no_probes,
   no_number,
   no_number_probes,

@@ -3,6 +3,7 @@
 //! - `machine` has the machine, its step and the answers to what a step asks.
 //! - `rows` does the row of an instruction, class by class.
 //! - `quick` reads and does the commonest instructions in one go, by the same definitions.
+//! - `quick_acts` has what it does once the operands are read.
 //! - `printing` has the quick steps of printing.
 //! - `engine` has the trait that a session runs on.
 //!
@@ -15,7 +16,7 @@
 //!
 //! What a step asks is answered by `finish`, by definitions of specs/Answer. A save is answered once the copy that
 //! `save_copy` gives was written, and a restore has `restore_copy` go back to a copy, or is answered where it fails
-//! (specs/SavedCopies).
+//! (specs/Saves).
 #![tactic(auto)]
 
 mod askings;
@@ -23,6 +24,7 @@ mod engine;
 mod machine;
 mod printing;
 mod quick;
+mod quick_acts;
 mod rows;
 
 pub use askings::Asking;

@@ -16,8 +16,7 @@ ghost use Rattle.gx_machine.specs.Answer.{answered_state, with_writes, with_push
 ghost use Rattle.gx_machine.specs.Answer.{AnswersAsking};
 ghost use Rattle.gx_machine.specs.SavedCopies.{restored_whole, saved_copy};
 ghost use Rattle.gx_machine.specs.Step.{room_of, asking_of, stepped, IsStepWriting};
-ghost use Rattle.gx_operands.specs.Tries.{Tries};
-ghost use Rattle.gx_machine.specs.Quick.{PassesUntil};
+ghost use Rattle.gx_machine.specs.Quick.{Tries, PassesUntil};
 ghost use Rattle.gx_machine.specs.Start.{first_machine};
 ghost use Rattle.gx_machine.specs.Advancing.{Advances, Passes};
 ghost use Rattle.gx_machine.specs.Views.{IsPendingAnswer, result_len};

@@ -2,25 +2,24 @@
 //!
 //! What is done here goes on and asks nothing. Where the next step isn't one of these, nothing has changed, and it is
 //! to be made by `rows`: a character to be put, one that the filter is called with, and every fault.
-ghost use Rattle.std.specs.Prelude.{◌≡◌, ◌≢◌, ◌↔◌, ◌<◌, ◌+◌, true, false, Ok, Some, IfSome};
+ghost use Rattle.std.specs.Prelude.{◌≡◌, ◌≢◌, ◌↔◌, ◌<◌, ◌+◌, true, false, Ok};
 ghost use Rattle.gx_words.specs.Constants.{glk_system};
-ghost use Rattle.gx_rows.specs.Table.{row_of};
-ghost use Rattle.gx_state.specs.declared.effects.Effect.TheVariants.{Went, Put};
+ghost use Rattle.gx_state.specs.declared.effects.Effect.TheVariants.{Went};
 ghost use Rattle.gx_pages.specs.Memory.{number_in};
-ghost use Rattle.gx_state.specs.Flat.{sp_of, IsHeight};
-ghost use Rattle.gx_operands.specs.Code.{IsInRom};
-ghost use Rattle.gx_operands.specs.Instructions.{instruction};
-ghost use Rattle.gx_operands.specs.Tries.{Tries};
+ghost use Rattle.gx_state.specs.Flat.{sp_of};
+ghost use Rattle.gx_operands.specs.Plans.{HasValues};
 ghost use Rattle.ops_print.specs.Asks.{printed};
-ghost use Rattle.ops_print.specs.Values.{printing_row, printing_by};
-ghost use Rattle.gx_machine.specs.Starts.{IsPrintingRow, PrintsRow, prints_at, prints_next};
+ghost use Rattle.gx_operands.specs.Code.{IsInRom};
+ghost use Rattle.gx_machine.specs.Quick.{Tries};
+ghost use Rattle.gx_machine.specs.Starts.{IsStarted, begun_on, prints_at, prints_next, streamed_on};
 
 use crate::quick::is_in_rom;
-use gx_operands::{opcode, read, stack_pointer};
+use crate::quick_acts::{call, go_on};
+use gx_operands::{Cursor, code, load, opcode, stack_pointer};
 use gx_rows::{STREAMCHAR, STREAMNUM, STREAMSTR, STREAMUNICHAR};
-use gx_state::{Effect, Mode, State};
-use gx_words::GLK_SYSTEM;
-use ops_print::{asked, print};
+use gx_state::{Dest, Effect, Mode, State};
+use gx_strings::begin;
+use gx_words::{FILTER_SYSTEM, GLK_SYSTEM, PrintKind, Printing};
 use std::alloc::Allocator;
 
 /// Whether the number of an instruction in one byte is that of one that prints.
@@ -54,108 +53,110 @@ pub(crate) fn is_silent<A: Allocator + Clone>(state: &State<A>) -> bool
     system != GLK_SYSTEM
 }
 
-/// Whether a number is that of an instruction that prints.
+/// Goes on with printing a string or number, once the pops are made.
 #[inline(always)]
-#[tactic(auto, using(crate::proofs::Starts::rows))]
-fn is_printing(number: u32) -> bool
-    ensures { result ≡ true → row_of number ≡ Some (printing_row number) }
+fn begin_on<A: Allocator + Clone>(state: &mut State<A>, printing: Printing, cursor: &Cursor)
+    requires live { 0 < sp_of state.old.flat }
+    requires popped { HasValues state.old.flat cursor.now.popped }
+    ensures value { state.new.flat ≡ begun_on state.old.flat printing cursor.now }
+    ensures story { state.new.flat.story ≡ state.old.flat.story }
 {
-    matches!(number, STREAMCHAR | STREAMNUM | STREAMSTR | STREAMUNICHAR)
+    let sp = stack_pointer(state, cursor.popped);
+    state.cut_stack(sp);
+    state.set_pc(cursor.at);
+    state.set_mode(Mode::Printing(printing));
 }
 
-/// Whether the instruction of a number may ask for a character to be put.
+/// A number from its first digit on.
 #[inline(always)]
-fn asks_at<A: Allocator + Clone>(state: &State<A>, number: u32) -> bool {
-    (number == STREAMCHAR || number == STREAMUNICHAR) && !is_silent(state)
-}
-
-/// An instruction that prints: its number, the value that it loads, the stack pointer that its pops leave, and the
-/// address behind it.
-#[derive(Clone, Copy)]
-struct PrintingRow {
-    number: u32,
-    value: u32,
-    sp: u32,
-    next: u32,
-}
-
-/// The instruction at PC where it prints, and asks for a character to be put or asks nothing, as is told.
-#[inline(always)]
-#[tactic(auto, using(crate::proofs::Starts::reads))]
-fn row_at_pc<A: Allocator + Clone, const ROM: bool>(
-    state: &State<A>,
-    asks: bool,
-) -> Option<PrintingRow>
-    requires live { 0 < sp_of state.now.flat }
-    requires rom { IsInRom ROM state.now.flat (state.now.flat.pc + 22) }
-    ensures value { IfSome result (λ row. instruction state.now.flat
-        ≡ Ok (printing_by row.number row.value row.sp row.next)) }
-    ensures height { IfSome result (λ row. IsHeight state.now.flat row.sp) }
+fn number_from_start(value: u32) -> Printing
+    ensures { result ≡ record { kind = PrintKind.Number; at = value; bit = 0; started = false } }
 {
-    let mut modes = 0;
-    let Ok(number) = opcode::<A, ROM>(state, &mut modes) else {
-        return None;
-    };
-    if !is_printing(number) || asks != asks_at(state, number) {
-        return None;
+    Printing {
+        kind: PrintKind::Number,
+        at: value,
+        bit: 0,
+        started: false,
     }
-    let Ok((loads, _)) = read::<A, ROM, 1, 0>(state, modes) else {
-        return None;
-    };
-    let sp = stack_pointer(state, loads.cursor.popped);
-    Some(PrintingRow {
-        number,
-        value: loads.first,
-        sp,
-        next: loads.cursor.at,
-    })
 }
 
-/// The same, whether the instruction lies in ROM or not.
+/// Prints a character, by the I/O system; nothing is done under Glk, nor where the filter can't be called.
 #[inline(always)]
-fn row_that_prints<A: Allocator + Clone>(state: &State<A>, asks: bool) -> Option<PrintingRow>
-    requires { 0 < sp_of state.now.flat }
-    ensures value { IfSome result (λ row. instruction state.now.flat
-        ≡ Ok (printing_by row.number row.value row.sp row.next)) }
-    ensures height { IfSome result (λ row. IsHeight state.now.flat row.sp) }
+fn stream<A: Allocator + Clone>(state: &mut State<A>, value: u32, cursor: &Cursor) -> bool
+    requires live { 0 < sp_of state.old.flat }
+    requires popped { HasValues state.old.flat cursor.now.popped }
+    ensures value { result ≡ true → streamed_on state.old.flat value cursor.now ≡ Ok (state.new.flat, Went) }
+    ensures none { result ≡ false → state.new.flat ≡ state.old.flat }
+    ensures story { state.new.flat.story ≡ state.old.flat.story }
 {
-    if is_in_rom(state) {
-        row_at_pc::<A, true>(state, asks)
-    } else {
-        row_at_pc::<A, false>(state, asks)
+    let (system, rock) = state.iosys();
+    match system {
+        FILTER_SYSTEM => matches!(call(state, rock, &[value], Dest::Nowhere, cursor), Ok(true)),
+        GLK_SYSTEM => false,
+        _ => {
+            go_on(state, cursor.at, cursor);
+            true
+        }
     }
 }
 
 /// Does the instruction at PC where it begins to print a string or number, drops a character, or calls the filter with
 /// one.
-#[tactic(auto, using(crate::proofs::Starts::prints))]
 pub(crate) fn start<A: Allocator + Clone>(state: &mut State<A>) -> bool
     requires { 0 < sp_of state.old.flat }
-    ensures value { result ≡ true → PrintsRow state.old.flat (state.new.flat, Went) }
+    ensures value { result ≡ true → IsStarted state.old.flat state.new.flat }
     ensures none { result ≡ false → state.new.flat ≡ state.old.flat }
     ensures story { state.new.flat.story ≡ state.old.flat.story }
 {
-    let Some(row) = row_that_prints(state, false) else {
-        return false;
-    };
-    match print(state, row.number, row.value, row.sp, row.next) {
-        Ok(Effect::Went) => true,
-        _ => false,
+    if is_in_rom(state) {
+        start_at::<A, true>(state)
+    } else {
+        start_at::<A, false>(state)
     }
 }
 
-/// The character that the instruction at PC asks to be put under Glk, where that is streamchar or streamunichar, with
-/// the stack pointer that its pops leave and the address behind it; None of any other instruction.
-#[inline(never)]
-#[tactic(auto, using(crate::proofs::Starts::prints))]
-pub(crate) fn streamed<A: Allocator + Clone>(state: &State<A>) -> Option<(u32, u32, u32)>
-    requires { 0 < sp_of state.now.flat }
-    ensures value { IfSome result (λ r. IsPrintingRow state.now.flat r.1 r.2 (state.now.flat, Put r.0)) }
-    ensures height { IfSome result (λ r. IsHeight state.now.flat r.1) }
+/// The same, where it is known or not that the instruction lies in ROM.
+#[tactic(auto, unfolding(gx_pages::specs::Memory::number_in), using(crate::proofs::Starts::starts))]
+fn start_at<A: Allocator + Clone, const ROM: bool>(state: &mut State<A>) -> bool
+    requires live { 0 < sp_of state.old.flat }
+    requires rom { IsInRom ROM state.old.flat (state.old.flat.pc + 22) }
+    ensures value { result ≡ true → IsStarted state.old.flat state.new.flat }
+    ensures none { result ≡ false → state.new.flat ≡ state.old.flat }
+    ensures story { state.new.flat.story ≡ state.old.flat.story }
 {
-    let row = row_that_prints(state, true)?;
-    let c = asked(state, row.number, row.value)?;
-    Some((c, row.sp, row.next))
+    let mut modes = 0;
+    let Ok(number) = opcode::<A, ROM>(state, &mut modes) else {
+        return false;
+    };
+    if number != STREAMNUM && number != STREAMSTR && !is_silent(state) {
+        return false;
+    }
+    let Ok(first) = code::<A, ROM>(state, 1, modes) else {
+        return false;
+    };
+    let mut cursor = Cursor {
+        at: modes + 1,
+        popped: 0,
+    };
+    let Ok(a) = load::<A, ROM>(state, 4, first % 16, &mut cursor) else {
+        return false;
+    };
+    match number {
+        STREAMCHAR => stream(state, a % 256, &cursor),
+        STREAMNUM => {
+            begin_on(state, number_from_start(a), &cursor);
+            true
+        }
+        STREAMSTR => match begin(state.memory(), a) {
+            Ok(string) => {
+                begin_on(state, string, &cursor);
+                true
+            }
+            Err(_) => false,
+        },
+        STREAMUNICHAR => stream(state, a, &cursor),
+        _ => false,
+    }
 }
 
 /// Makes the next step of printing where it puts no character.

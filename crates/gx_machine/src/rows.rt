@@ -16,14 +16,15 @@ ghost use Rattle.ops_memory.specs.Charges.{charged, IsAfforded};
 ghost use Rattle.ops_print.specs.PrintRows as print;
 ghost use Rattle.ops_print.specs.Asks.{printed, is_put};
 ghost use Rattle.gx_machine.specs.declared.askings.Asking.TheVariants as asking;
-ghost use Rattle.gx_operands.specs.Tries.{Tries};
+ghost use Rattle.gx_machine.specs.Quick.{Tries};
 ghost use Rattle.gx_machine.specs.MachineRows.{room_above, glk, row_effect, IsWriting};
 ghost use Rattle.gx_machine.specs.Step.{asking_of, mode_step, probes_in, IsModeWriting};
 ghost use Rattle.gx_machine.specs.Views.{IsPendingAnswer, result_len, machine_with};
 
 use crate::Asking;
 use crate::machine::Pending;
-use crate::printing::{item_on, prints_at_pc, streamed};
+use crate::printing::{item_on, prints_at_pc};
+use crate::quick::streamed;
 use gx_operands::{Plan, arguments, can_store, decode_into};
 use gx_rows::Class;
 use gx_state::{Dest, Effect, Mode, State};
@@ -181,7 +182,7 @@ pub(crate) fn next_put<A: Allocator + Clone>(
 
 /// The same for a state that runs code.
 #[inline(always)]
-#[tactic(auto, using(crate::proofs::Starts::steps))]
+#[tactic(auto, using(crate::proofs::Streams::steps))]
 fn next_streamed<A: Allocator + Clone>(
     state: &State<A>,
     pending: &mut Option<Pending>,

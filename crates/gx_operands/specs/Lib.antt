@@ -3,5 +3,3 @@ pub mod Plans
 pub mod Stores
 pub mod Arguments
 pub mod Code
-pub mod Short
-pub mod Tries

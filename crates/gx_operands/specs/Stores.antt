@@ -28,10 +28,6 @@ settled f sp width d v = store_fault f width d sp >>= λ _. Ok (with_settled f s
 abbrev pub stores : FlatState → Instruction → ℕ → Result (FlatState × Effect) Fault
 stores f i v = settled f i.sp 4 i.dest v >>= λ g. Ok (going_to g i.next, Went)
 
--- the same of so many bytes, by values
-abbrev pub stored_on : FlatState → ℕ → Dest → ℕ → ℕ → ℕ → Result (FlatState × Effect) Fault
-stored_on f sp dest width v next = settled f sp width dest v >>= λ g. Ok (going_to g next, Went)
-
 -- on at an address
 abbrev pub goes_to : FlatState → ℕ → Result (FlatState × Effect) Fault
 goes_to f pc = Ok (going_to f pc, Went)

@@ -5,7 +5,6 @@
 //!   specs/Instructions, or its first fault.
 //! - `code_bytes` reads its bytes.
 //! - `cursor` is where that reading stands.
-//! - `reading` reads a short row into values.
 //! - `popped` reads what an instruction pops beside its operands.
 //! - `storing` makes one store, or tells its fault in advance.
 //! - `rows` has what the rows of all classes share: a result, and the next instruction.
@@ -18,7 +17,6 @@ mod cursor;
 mod decoding;
 mod plan;
 mod popped;
-mod reading;
 mod rows;
 mod storing;
 
@@ -27,6 +25,5 @@ pub use cursor::Cursor;
 pub use decoding::{decode, decode_into, destination, find_row, load, opcode, stack_pointer};
 pub use plan::Plan;
 pub use popped::{arguments, values_to};
-pub use reading::{Loads, read, read_loads};
-pub use rows::{go_on, goes, store_on, stores};
+pub use rows::{goes, stores};
 pub use storing::{can_store, settle, store};

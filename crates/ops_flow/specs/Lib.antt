@@ -1,4 +1,3 @@
 pub mod FlowRows
 pub mod Writes
 pub mod Catches
-pub mod Values

@@ -1,5 +1,5 @@
 //! The rows of Branch, and the return from a function (Glulx 3.1.2, "Branches").
-ghost use Rattle.std.specs.Prelude.{◌≡◌, ◌⊎◌, ◌%◌, ◌<◌, ◌≤◌, ◌==◌, if◌then◌else◌, true, false, Ok, IfOk, IsSome};
+ghost use Rattle.std.specs.Prelude.{◌≡◌, ◌⊎◌, ◌%◌, ◌<◌, ◌≤◌, ◌==◌, if◌then◌else◌, IfOk, IsSome};
 ghost use Rattle.gx_state.specs.Flat.{cut, sp_of, IsHeight};
 ghost use Rattle.gx_state.specs.Relations.{Works};
 ghost use Rattle.gx_state.specs.Replies.{IsDone};
@@ -8,12 +8,11 @@ ghost use Rattle.gx_state.specs.Calls.{with_word};
 ghost use Rattle.gx_state.specs.Allowed.{IsWordInRam};
 ghost use Rattle.gx_operands.specs.Instructions.{going_to};
 ghost use Rattle.gx_operands.specs.Plans.{instruction_of};
-ghost use Rattle.gx_operands.specs.Stores.{goes_to};
-ghost use Rattle.gx_operands.specs.Tries.{Tries};
 ghost use Rattle.ops_flow.specs.FlowRows.{returns, branches, jumps};
-ghost use Rattle.ops_flow.specs.Writes.{IsWriting};
+ghost use Rattle.ops_flow.specs.Writes.{IsBranchWriting, IsWriting};
 
-use gx_operands::{Plan, go_on};
+use crate::goes_to;
+use gx_operands::{Plan, goes};
 use gx_rows::Class;
 use gx_state::{Effect, State};
 use gx_words::Fault;
@@ -71,55 +70,26 @@ pub fn leave<A: Allocator + Clone>(
     Ok(after_return(ended))
 }
 
-/// Returns a value from the present function. It is false, and nothing is done, where that is the start function.
-#[inline(always)]
-pub fn give_back<A: Allocator + Clone>(
+/// Branches by an offset, once the pops are made.
+#[tactic(auto, using(crate::proofs::Cuts::cuts))]
+fn branch<A: Allocator + Clone>(
     state: &mut State<A>,
-    value: u32,
-    next: u32,
-) -> Result<bool, Fault>
-    requires { 0 < sp_of state.old.flat }
-    ensures value { Tries (IsReturnWriting state.old.flat state.old.flat.fp) result state.old.flat state.new.flat
-        (returns state.old.flat next value) }
-    ensures story { state.new.flat.story ≡ state.old.flat.story }
-{
-    let frame = state.frame();
-    if frame.fp == 0 {
-        return Ok(false);
-    }
-    deliver(state, next, frame.fp, value, None)?;
-    Ok(true)
-}
-
-/// Branches by an offset where a test holds, and else goes on, once the pops are made. It is false, and nothing is
-/// done, where the branch returns from the function.
-#[inline(always)]
-pub fn jump<A: Allocator + Clone>(
-    state: &mut State<A>,
-    holds: bool,
+    plan: &Plan,
     offset: u32,
-    sp: u32,
-    next: u32,
-) -> bool
-    requires { IsHeight state.old.flat sp }
-    ensures value { Tries ⊥ (Ok result) state.old.flat state.new.flat
-        (if holds then branches (cut state.old.flat sp) next offset else goes_to (cut state.old.flat sp) next) }
-    ensures returns { result ≡ false → (holds ≡ true) × (offset < 2) }
-    ensures story { state.new.flat.story ≡ state.old.flat.story }
+) -> Result<Effect, Fault>
+    requires { IsHeight state.old.flat plan.now.sp }
+    ensures value { Works (IsBranchWriting state.old.flat offset) result state.old.flat state.new.flat
+        (branches (cut state.old.flat plan.now.sp) plan.now.next offset) }
+    ensures done { IfOk result IsDone }
 {
-    if !holds {
-        go_on(state, sp, next);
-        return true;
-    }
     if offset < 2 {
-        return false;
+        return leave(state, offset, plan.next);
     }
-    go_on(state, sp, next.wrapping_add(offset - 2));
-    true
+    Ok(goes_to(state, plan.sp, plan.next.wrapping_add(offset - 2)))
 }
 
 /// A row of Branch.
-#[tactic(auto, unfolding(crate::specs::FlowRows::jumps), using(crate::proofs::Acts::acts, crate::proofs::Cuts::cuts))]
+#[tactic(auto, unfolding(crate::specs::FlowRows::jumps), using(crate::proofs::Acts::acts))]
 pub fn jumps<A: Allocator + Clone>(state: &mut State<A>, plan: &Plan) -> Result<Effect, Fault>
     requires sp { IsHeight state.old.flat plan.now.sp }
     requires class { (instruction_of plan.now).row.class ≡ Class.Branch }
@@ -128,10 +98,10 @@ pub fn jumps<A: Allocator + Clone>(state: &mut State<A>, plan: &Plan) -> Result<
     ensures done { IfOk result IsDone }
 {
     let row = plan.row();
-    let offset = plan.load(usize::from(row.loads).saturating_sub(1));
-    let holds = test(row.act, plan.load(0), plan.load(1));
-    if jump(state, holds, offset, plan.sp, plan.next) {
-        return Ok(Effect::Went);
+    if test(row.act, plan.load(0), plan.load(1)) {
+        let last = usize::from(row.loads).saturating_sub(1);
+        branch(state, plan, plan.load(last))
+    } else {
+        Ok(goes(state, plan))
     }
-    leave(state, offset, plan.next)
 }

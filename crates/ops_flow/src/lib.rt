@@ -1,9 +1,8 @@
 //! The instructions that compute, branch, call and rearrange the stack: the classes Calc, Branch, Flow
 //! and Stack (Glulx 3.1.2, "Integer Math", "Branches", "Functions", "Continuations" and "The Stack").
 //!
-//! `act` does the row of a plan, by its definition of specs/FlowRows; after every fault the state is as
+//! `act` does the row of a plan, by its definition of specs/Rows; after every fault the state is as
 //! before. Only the rows of specs/Writes may want memory, and only where they have no fault.
-//! What they do once their operands are read stands over values, for the machine too, which keeps these in registers.
 //! - `computing` has the rows of Calc.
 //! - `branches` has those of Branch, and the return from a function.
 //! - `calls` and `continuations` have those of Flow.
@@ -26,14 +25,12 @@ mod computing;
 mod continuations;
 mod values;
 
-pub use branches::{give_back, jump};
+pub use branches::deliver;
 use branches::{jumps, leave};
-pub use calls::{call_popping, call_with};
 use calls::{call, callf, tailcall};
-pub use computing::compute;
 use computing::computes;
 use continuations::{catch, throw};
-use gx_operands::{Plan, go_on, goes};
+use gx_operands::{Plan, goes};
 use gx_rows::{Class, by_row};
 use gx_state::{Effect, State};
 use gx_words::Fault;
@@ -47,7 +44,8 @@ fn goes_to<A: Allocator + Clone>(state: &mut State<A>, sp: u32, pc: u32) -> Effe
     ensures done { IsDone result }
     ensures story { state.new.flat.story ≡ state.old.flat.story }
 {
-    go_on(state, sp, pc);
+    state.cut_stack(sp);
+    state.set_pc(pc);
     Effect::Went
 }
 

@@ -1,41 +1,35 @@
 //! The rows of arrays of bits (Glulx 3.1.2, "Array Data").
 ghost use Rattle.std.specs.Prelude.{◌≡◌, ◌<◌, ◌-◌, ◌/◌, ◌%◌, ◌^◌, ◌==◌, if◌then◌else◌, bit_and, bit_or, IfOk};
-ghost use Rattle.gx_words.specs.Faults.{Does};
-ghost use Rattle.gx_state.specs.declared.effects.Effect.TheVariants.{Went};
 ghost use Rattle.gx_state.specs.Flat.{IsHeight};
 ghost use Rattle.gx_state.specs.Relations.{Works};
 ghost use Rattle.gx_state.specs.Replies.{IsDone};
 ghost use Rattle.gx_state.specs.Stores.{IsMemory};
 ghost use Rattle.gx_operands.specs.Plans.{instruction_of};
-ghost use Rattle.ops_memory.specs.MemoryRows.{aloadbit, astorebit};
-ghost use Rattle.ops_memory.specs.Values.{byte_at, bit_at, bit_fetched_on};
+ghost use Rattle.ops_memory.specs.MemoryRows.{aloadbit, astorebit, byte_of_bit, bit_in_byte};
 
 use crate::arrays::puts;
-use gx_operands::{Plan, store_on};
-use gx_state::{Dest, Effect, State};
+use gx_operands::{Plan, stores};
+use gx_state::{Effect, State};
 use gx_words::{Fault, signed};
 use std::alloc::Allocator;
 
-/// The address of the byte that has a bit, by the bit's signed number.
-#[inline(always)]
-fn byte_of_bit(array: u32, index: u32) -> u32
-    ensures { result ≡ byte_at array index }
+/// The address of the byte that has a bit.
+fn byte_of_bit(plan: &Plan) -> u32
+    ensures { result ≡ byte_of_bit (instruction_of plan.now) }
 {
-    let offset = signed(index).div_euclid(8);
-    array.wrapping_add(offset.cast_unsigned())
+    let offset = signed(plan.load(1)).div_euclid(8);
+    plan.load(0).wrapping_add(offset.cast_unsigned())
 }
 
 /// The number of a bit in its byte.
-#[inline(always)]
-fn bit_in_byte(index: u32) -> u32
-    ensures value { result ≡ bit_at index }
+fn bit_in_byte(plan: &Plan) -> u32
+    ensures value { result ≡ bit_in_byte (instruction_of plan.now) }
     ensures fits { result < 8 }
 {
-    signed(index).rem_euclid(8) as u32
+    signed(plan.load(1)).rem_euclid(8) as u32
 }
 
 /// A bit of a byte.
-#[inline(always)]
 fn bit_of(byte: u32, k: u32) -> u32
     requires { k < 8 }
     ensures { result ≡ byte / 2 ^ k % 2 }
@@ -56,25 +50,6 @@ fn with_bit(byte: u32, k: u32, value: u32) -> u32
     }
 }
 
-/// Stores a bit of an array of bits as a result.
-pub fn fetch_bit<A: Allocator + Clone>(
-    state: &mut State<A>,
-    array: u32,
-    index: u32,
-    sp: u32,
-    dest: Dest,
-    next: u32,
-) -> Result<(), Fault>
-    requires { IsHeight state.old.flat sp }
-    ensures value { Does (IsMemory dest) (λ done. Went) result state.old.flat state.new.flat
-        (bit_fetched_on state.old.flat array index sp dest next) }
-    ensures story { state.new.flat.story ≡ state.old.flat.story }
-{
-    let byte = state.memory().try_number(1, byte_of_bit(array, index))?;
-    let bit = bit_of(byte, bit_in_byte(index));
-    store_on(state, sp, dest, 4, bit, next)
-}
-
 /// aloadbit
 #[tactic(auto, unfolding(crate::specs::MemoryRows::aloadbit))]
 pub fn aloadbit<A: Allocator + Clone>(state: &mut State<A>, plan: &Plan) -> Result<Effect, Fault>
@@ -83,15 +58,8 @@ pub fn aloadbit<A: Allocator + Clone>(state: &mut State<A>, plan: &Plan) -> Resu
         (aloadbit state.old.flat (instruction_of plan.now)) }
     ensures done { IfOk result IsDone }
 {
-    fetch_bit(
-        state,
-        plan.load(0),
-        plan.load(1),
-        plan.sp,
-        plan.dest,
-        plan.next,
-    )?;
-    Ok(Effect::Went)
+    let byte = state.memory().try_number(1, byte_of_bit(plan))?;
+    stores(state, plan, bit_of(byte, bit_in_byte(plan)))
 }
 
 /// astorebit
@@ -102,8 +70,8 @@ pub fn astorebit<A: Allocator + Clone>(state: &mut State<A>, plan: &Plan) -> Res
         (astorebit state.old.flat (instruction_of plan.now)) }
     ensures done { IfOk result IsDone }
 {
-    let at = byte_of_bit(plan.load(0), plan.load(1));
+    let at = byte_of_bit(plan);
     let byte = state.memory().try_number(1, at)?;
-    let value = with_bit(byte, bit_in_byte(plan.load(1)), plan.load(2));
+    let value = with_bit(byte, bit_in_byte(plan), plan.load(2));
     puts(state, plan, 1, at, value)
 }

@@ -1,7 +1,7 @@
 //! The instructions of the classes Copy and Memory (Glulx 3.1.2, "Moving Data", "Array Data", "Memory
 //! Map", "Searching", "Block Copy and Clear" and "Memory Allocation Heap").
 //!
-//! `act` does the row of a plan, by its definition of specs/MemoryRows, at the cost of specs/Costs; after
+//! `act` does the row of a plan, by its definition of specs/Rows, at the cost of specs/Costs; after
 //! every fault the state and the budget are as before. Only the rows of specs/Writes may want memory, and
 //! only where they have no fault.
 //! - `arrays` and `bits` have the rows of arrays.
@@ -29,11 +29,9 @@ mod ranges;
 mod searches;
 mod sizes;
 
-pub use arrays::{element, fetch};
-use arrays::{loads, stores_element};
-pub use bits::fetch_bit;
+use arrays::{element, loads, puts};
 use bits::{aloadbit, astorebit};
-use gx_operands::{Plan, store_on};
+use gx_operands::{Plan, settle};
 use gx_rows::{Class, by_row};
 use gx_state::{Effect, State};
 use gx_words::Fault;
@@ -52,7 +50,8 @@ fn copy<A: Allocator + Clone>(state: &mut State<A>, plan: &Plan) -> Result<Effec
     ensures done { IfOk result IsDone }
 {
     let width = u32::from(plan.row().width);
-    store_on(state, plan.sp, plan.dest, width, plan.load(0), plan.next)?;
+    settle(state, plan.sp, &plan.dest, width, plan.load(0))?;
+    state.set_pc(plan.next);
     Ok(Effect::Went)
 }
 
@@ -75,13 +74,13 @@ fn memory<A: Allocator + Clone>(
     ensures story { state.new.flat.story ≡ state.old.flat.story }
 {
     by_row!(Memory, plan.row().number;
-        ALOAD => loads(state, plan, 4),
-        ALOADS => loads(state, plan, 2),
-        ALOADB => loads(state, plan, 1),
+        ALOAD => loads(state, plan, 4, element(plan, 4)),
+        ALOADS => loads(state, plan, 2, element(plan, 2)),
+        ALOADB => loads(state, plan, 1, element(plan, 1)),
         ALOADBIT => aloadbit(state, plan),
-        ASTORE => stores_element(state, plan, 4),
-        ASTORES => stores_element(state, plan, 2),
-        ASTOREB => stores_element(state, plan, 1),
+        ASTORE => puts(state, plan, 4, element(plan, 4), plan.load(2)),
+        ASTORES => puts(state, plan, 2, element(plan, 2), plan.load(2)),
+        ASTOREB => puts(state, plan, 1, element(plan, 1), plan.load(2)),
         ASTOREBIT => astorebit(state, plan),
         GETMEMSIZE => getmemsize(state, plan),
         SETMEMSIZE => setmemsize(state, plan),

@@ -2,7 +2,6 @@
 use Rattle.gx_state.specs.Returns.{popped_stub, stub_to, printing_on}
 use Rattle.ops_print.specs.Asks.{mode_after}
 use Rattle.ops_print.specs.Items.{item, item_printed, character_printed}
-use Rattle.ops_print.specs.PrintRows.{streamchar, streamnum, streamstr, streamunichar}
 use Rattle.ops_print.specs.Stubs.{inner_ended}
 
 -- a character of a string or number that is dropped, and one that is put
@@ -23,8 +22,3 @@ stepping = tt
 unfoldable pub ending : Unit {0}
 unfolding inner_ended popped_stub stub_to printing_on
 ending = tt
-
--- the rows of the class
-unfoldable pub rows : Unit {0}
-unfolding streamchar streamnum streamstr streamunichar
-rows = tt

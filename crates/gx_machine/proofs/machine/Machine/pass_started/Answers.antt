@@ -7,7 +7,7 @@ use Rattle.gx_machine.specs.Machine.{Whole}
 use Rattle.gx_machine.specs.Step.{stepped}
 use Rattle.gx_machine.specs.Views.{whole_of}
 use Rattle.gx_machine.proofs.Passing.{pass_ok}
-use Rattle.gx_machine.proofs.Starts.{row_probes, row_steps}
+use Rattle.gx_machine.proofs.Starts.{started_probes, started_steps}
 use Rattle.gx_machine.proofs.machine.Machine.pass_started.Goals as goal
 
 pub returns-then-start-clause-value : goal.returns-then-start-clause-value
@@ -17,7 +17,7 @@ returns-then-start-clause-value g c =
     let running = subst (λ (x : Whole). x.machine.flat.mode ≡ Running) (sym c.self.view_is) c.requires.running in
     let asks : w.asking ≡ None = subst (λ (x : Whole). x.asking ≡ None) (sym c.self.view_is) c.requires.asks in
     let started = c.start.ensures.value c.if-start.true in
-    let free = row_probes w.machine.flat (c.start.new.state.flat, Went) started.0 started.1 started.2 in
+    let free = started_probes w.machine.flat c.start.new.state.flat started in
     λ word. subst (λ (x : Whole). stepped x word c.args.budget.now
     ≡ Ok (
       (
@@ -32,4 +32,4 @@ returns-then-start-clause-value g c =
     c.self.view_is
     (pass_ok w word c.args.budget.now (record { flat = c.start.new.state.flat; undo = c.self.inside.undo })
     c.requires.some live running asks free
-    (row_steps w.machine.flat (c.start.new.state.flat, Went) started.0 started.1 started.2 c.self.inside.undo word))
+    (started_steps w.machine.flat c.start.new.state.flat started c.self.inside.undo word))
