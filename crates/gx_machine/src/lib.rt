@@ -16,7 +16,7 @@
 //!
 //! What a step asks is answered by `finish`, by definitions of specs/Answer. A save is answered once the copy that
 //! `save_copy` gives was written, and a restore has `restore_copy` go back to a copy, or is answered where it fails
-//! (specs/Saves).
+//! (specs/SavedCopies).
 #![tactic(auto)]
 
 mod askings;

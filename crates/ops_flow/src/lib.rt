@@ -1,7 +1,7 @@
 //! The instructions that compute, branch, call and rearrange the stack: the classes Calc, Branch, Flow
 //! and Stack (Glulx 3.1.2, "Integer Math", "Branches", "Functions", "Continuations" and "The Stack").
 //!
-//! `act` does the row of a plan, by its definition of specs/Rows; after every fault the state is as
+//! `act` does the row of a plan, by its definition of specs/FlowRows; after every fault the state is as
 //! before. Only the rows of specs/Writes may want memory, and only where they have no fault.
 //! - `computing` has the rows of Calc.
 //! - `branches` has those of Branch, and the return from a function.

@@ -1,7 +1,7 @@
 //! The instructions of the class Game (Glulx 3.1.2, "Miscellaneous", "Random Number Generator", "Game
 //! State", "Output" and "Accelerated Functions").
 //!
-//! `act` does the row of a plan, by its definition of specs/Rows; after every fault the state and the
+//! `act` does the row of a plan, by its definition of specs/GameRows; after every fault the state and the
 //! copies are as before. Only the rows of specs/Writes may want memory, and only where they have no
 //! fault. save and restore ask, with the state and the copies standing, and never want memory.
 //! - `chances` has random and setrandom.

@@ -1,7 +1,7 @@
 //! The instructions of the classes Copy and Memory (Glulx 3.1.2, "Moving Data", "Array Data", "Memory
 //! Map", "Searching", "Block Copy and Clear" and "Memory Allocation Heap").
 //!
-//! `act` does the row of a plan, by its definition of specs/Rows, at the cost of specs/Costs; after
+//! `act` does the row of a plan, by its definition of specs/MemoryRows, at the cost of specs/Costs; after
 //! every fault the state and the budget are as before. Only the rows of specs/Writes may want memory, and
 //! only where they have no fault.
 //! - `arrays` and `bits` have the rows of arrays.

@@ -1,7 +1,7 @@
 //! The instructions of the class Print, and the steps by which strings and numbers are printed (Glulx
 //! 3.1.2, "Output", "Strings" and "Calling and Returning During Output Filtering").
 //!
-//! `act` does the row of a plan, by its definition of specs/Rows. `item` makes one step of printing,
+//! `act` does the row of a plan, by its definition of specs/PrintRows. `item` makes one step of printing,
 //! by specs/Items: one character, one reference or the end. Both go by the I/O system: the null system
 //! drops each character, the filter is called with it, and under Glk it is asked to be put. After
 //! every fault the state is as before, and nothing here takes memory.
