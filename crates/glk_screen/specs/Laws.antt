@@ -48,7 +48,7 @@ abbrev pub KeepsLast : Type 0
 KeepsLast = (text : List ℕ) → with_chars [] text ≡ last_of text
 
 -- A text, as it came and as it is wrapped: the same but for the breaks, each of which took the place of one blank, or
--- was added between two characters.
+-- was added.
 pub record IsWrapped (put text : List ℕ) : Type 0 where
   pub pieces : List Piece
   pub put_is : concat (map as_put pieces) ≡ put

@@ -74,7 +74,7 @@ restarted w = record w { gone = 0 }
 
 -- ---- what holds of it
 
--- A part of a text: characters, or a line feed that took the place of a blank, or one that stands between characters.
+-- A part of a text: characters, or a line feed that took the place of a blank, or one that was added.
 pub data Piece : Type 0 where
   characters : List ℕ → Piece
   for_blank : Piece

@@ -13,8 +13,7 @@ RowsStay r (part ∷ parts) =
     (stays_within r.limit r.gone (part_wrapped r part).0 ≡ true) × RowsStay (part_wrapped r part).1 parts
 
 -- From a row of which nothing is held nothing is lost, with what is held in the end: the text is the one that comes but
--- for the breaks, each of which took the place of one blank, or was added between two characters. And no row is wider
--- than it may be.
+-- for the breaks, each of which took the place of one blank, or was added. And no row is wider than it may be.
 pub record PartsWrapRight (r : FlatWrapper) (parts : List Part) : Type 0 where
   pub kept : IsWrapped (as_it_comes parts) ((wrapped r parts).0 ++ (wrapped r parts).1.row)
   pub within : RowsStay r parts
