@@ -22,6 +22,7 @@ use Rattle.glk_world.specs.Putting.{window_of_stream, entry_of, is_plain_text, p
 use Rattle.glk_world.specs.Putting.{places_of, chain_end, takes_chars}
 use Rattle.glk_replies.specs.Parts.{IsCharWidth, replies, can_lay, numbers_in, reply_filling, MayWant}
 use Rattle.glk_text_calls.specs.Putting.{put_all, put_grows_one, put_grows_some}
+use Rattle.glk_world.proofs.Alone.{text_grows as plain_grows}
 use Rattle.glk_replies.proofs.Counting.{count_numbers, some_numbers}
 use Rattle.glk_replies.proofs.Laying.{numbers_more}
 use Rattle.glk_replies.proofs.Ram.{laid_in_ram}
@@ -273,6 +274,10 @@ pub text_grows : (w : Scene) (stream c : ℕ) → is_plain_text w stream ≡ tru
     → put_grows_one w stream c ≡ true
 text_grows w stream c plain grows = rw (text_there w stream plain, grows) refl
 
+-- it may want memory
+pub text_longer : (w : Scene) (stream c : ℕ) → is_plain_text w stream ≡ true → put_grows_one w stream c ≡ true
+text_longer w stream c plain = text_grows w stream c plain (plain_grows w stream c plain)
+
 -- memory is wanted for it where it has no fault
 pub text_fine : (w : FlatWorld) (f : FlatState) (stream c : ℕ) → is_plain_text w.scene stream ≡ true
     → (places_of w.scene stream 1).count ≡ 0 → IsOk (on_world w (put_all w.scene f stream (c ∷ [])))
@@ -289,4 +294,4 @@ text_wanted w now f stream c plain grows none = (
   ),
 )
 
-pub ruleset text_rules = (text_put, text_grows, text_fine)
+pub ruleset text_rules = (text_put, text_grows, text_longer, text_fine)

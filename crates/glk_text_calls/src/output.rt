@@ -4,12 +4,13 @@
 //! A character takes no memory but for its place in the text, in a file or in the reply. A string and a buffer are
 //! gathered where their stream takes characters, and only there: one that is open for writing, of a window only where
 //! that is a text buffer or a grid or has an echo stream. Of any other a character is at most counted.
-ghost use Rattle.std.specs.Prelude.{ℕ, ◌≡◌, ◌+◌, ◌*◌, ◌≤◌, ◌<◌, ◌^◌, ◌==◌, ◌&&◌, ◌∷◌, [], not, length, Ok, IfOk, IsOk};
-ghost use Rattle.std.specs.Prelude.{OnErr, OnOk, IsTrue};
+ghost use Rattle.std.specs.Prelude.{ℕ, ◌≡◌, ◌+◌, ◌*◌, ◌≤◌, ◌<◌, ◌^◌, ◌==◌, ◌&&◌, ◌∷◌, List, [], not, length, Ok, IfOk};
+ghost use Rattle.std.specs.Prelude.{IsOk, OnErr, OnOk, IsTrue};
 ghost use Rattle.gx_state.specs.Flat.{FlatState};
 ghost use Rattle.gx_state.specs.Replies.{IsReply};
 ghost use Rattle.glk_streams.specs.Streams as streams;
 ghost use Rattle.glk_world.specs.Putting.{is_plain_text, put_chars, takes_chars};
+ghost use Rattle.glk_world.specs.Each.{ShowsEach};
 ghost use Rattle.glk_world.specs.World.{after, on_world, MakesCall};
 ghost use Rattle.glk_replies.specs.Parts.{IsCharWidth, replies, numbers_in};
 ghost use Rattle.glk_replies.specs.Strings.{string_length};
@@ -202,6 +203,11 @@ pub fn put_text(world: &mut World, value: u32) -> Result<bool, AllocError>
     ensures other { IfOk result (λ put. IsTrue (not put) → world.new ≡ world.old) }
     ensures fine { OnErr result ((f : FlatState) → IsOk (on_world world.old (putting world.old.scene f value))) }
     ensures memory { OnErr result (IsTrue (put_grows_one world.old.scene world.old.scene.current value)) }
+    ensures grows { IfOk result (λ put. IsTrue put
+        → IsTrue (put_grows_one world.old.scene world.old.scene.current value)) }
+    ensures current { IfOk result (λ put. IsTrue put → world.new.scene.current ≡ world.old.scene.current) }
+    ensures shows { IfOk result (λ put. IsTrue put → (chars : List ℕ)
+        → ShowsEach world.new world.old.scene.current chars) }
 {
     let stream = world.current();
     world.put_text(stream, value)

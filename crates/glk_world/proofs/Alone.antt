@@ -226,12 +226,16 @@ plain_echo : (w : Scene) (s : ℕ) → IsPlain w s → echo_of w s ≡ 0
 plain_echo w s is = rw is.own is.echo
 
 -- a character comes to the text, or to the composed screen
+pub plain_put : (w : Scene) (s c : ℕ) → IsBelowAll streams.id_of w.streams 0 → is_plain_text w s ≡ true
+    → put_of w s c ≡ buffer_put (counted w s c) (window_of_stream w s) (shown c)
+unfolding stream_put window_put
+plain_put w s c first h =
+    let is = plain w s h in
+    rw (put_alone w s c first is.there (plain_echo w s is), is.own, is.text) refl
+
 pub text_put : (w : FlatWorld) (s c : ℕ) → IsBelowAll streams.id_of w.scene.streams 0 → is_plain_text w.scene s ≡ true
     → after w (buffer_put (counted w.scene s c) (window_of_stream w.scene s) (shown c)) ≡ after w (put_of w.scene s c)
-unfolding stream_put window_put
-text_put w s c first h =
-    let is = plain w.scene s h in
-    rw (put_alone w.scene s c first is.there (plain_echo w.scene s is), is.own, is.text) refl
+text_put w s c first h = ap (after w) (sym (plain_put w.scene s c first h))
 
 pub text_places : (w : Scene) (s count : ℕ) → IsBelowAll streams.id_of w.streams 0 → is_plain_text w s ≡ true
     → (places_of w s count).count ≡ 0

@@ -9,4 +9,5 @@ pub mod Links
 pub mod Names
 pub mod Echoes
 pub mod Alone
+pub mod Each
 pub mod Unseen

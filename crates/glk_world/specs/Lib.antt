@@ -3,6 +3,7 @@ pub mod World
 pub mod Putting
 pub mod Chains
 pub mod Naming
+pub mod Each
 pub mod Shown
 pub mod Calls
 pub mod Stored

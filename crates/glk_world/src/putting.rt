@@ -1,6 +1,6 @@
 //! Characters that are put to streams and got from them (Glk 0.7.5, "Streams" and "Echo Streams").
-ghost use Rattle.std.specs.Prelude.{◌≡◌, ◌≢◌, ◌⊎◌, ℕ, ◌+◌, ◌≤◌, ◌<◌, ◌^◌, [], not, length, true, false, OnOk, OnErr};
-ghost use Rattle.std.specs.Prelude.{IfOk, MatchOption, IsTrue};
+ghost use Rattle.std.specs.Prelude.{◌≡◌, ◌≢◌, ◌⊎◌, ℕ, ◌+◌, ◌≤◌, ◌<◌, ◌^◌, List, [], not, length, true, false, OnOk};
+ghost use Rattle.std.specs.Prelude.{OnErr, IfOk, MatchOption, IsTrue};
 ghost use Rattle.std.specs.Option.{option_map};
 ghost use Rattle.glk_objects.specs.Objects.{object_place};
 ghost use Rattle.glk_streams.specs.Stream as one;
@@ -16,6 +16,7 @@ ghost use Rattle.glk_world.specs.Putting.{grows_along, takes_chars};
 ghost use Rattle.glk_world.specs.Putting.{put_grows, end_along, chain_end, places_of, places_read, leads_along};
 ghost use Rattle.glk_world.specs.Putting.{leads_to};
 ghost use Rattle.glk_world.specs.Calls.{chars_got, char_got, with_echo};
+ghost use Rattle.glk_world.specs.Each.{ShowsEach};
 
 use crate::{View, World};
 use glk_streams::{NO_PLACES, Places};
@@ -50,6 +51,8 @@ impl World {
         ensures grows { OnErr result (IsTrue (put_grows self.old.scene stream c)) }
         ensures places { IsTrue (is_plain_text self.old.scene stream) → (count : ℕ)
             → (places_of self.old.scene stream count).count ≡ 0 }
+        ensures current { IfOk result (λ put. IsTrue put → self.new.scene.current ≡ self.old.scene.current) }
+        ensures shows { IfOk result (λ put. IsTrue put → (chars : List ℕ) → ShowsEach self.new stream chars) }
     {
         let Some((at, win)) = self.find_text(stream) else {
             return Ok(false);
@@ -98,6 +101,8 @@ impl World {
             × (found.1 ≡ window_of_stream self.now.scene stream)) }
         ensures places { IsTrue (is_plain_text self.now.scene stream) → (count : ℕ)
             → (places_of self.now.scene stream count).count ≡ 0 }
+        ensures shows { IsTrue (is_plain_text self.now.scene stream) → (chars : List ℕ)
+            → ShowsEach self.now stream chars }
     {
         let (at, win) = self.streams.find(stream)?;
         if win == 0 {

@@ -6,7 +6,7 @@ ghost use Rattle.glk_streams.specs.Streams as streams;
 ghost use Rattle.glk_windows.specs.Windows.{entry_id};
 ghost use Rattle.glk_world.specs.declared.views.View.TheVariants as view;
 ghost use Rattle.glk_world.specs.World.{after, silent, empty_world, has_reference, reference_at, reference_id};
-ghost use Rattle.glk_world.specs.World.{arg, waits};
+ghost use Rattle.glk_world.specs.World.{arg, waits, is_wrapping};
 ghost use Rattle.glk_world.specs.Kept.{flat_call, waiting_of};
 
 use crate::{FileReference, ShownGrid, View};
@@ -160,6 +160,13 @@ impl World {
         ensures { self.new ≡ record self.old { text = [] } }
     {
         self.text.clear();
+    }
+
+    /// Whether text is wrapped.
+    pub fn wraps(&self) -> bool
+        ensures { result ≡ is_wrapping self.now.scene }
+    {
+        self.view.wraps()
     }
 
     pub fn windows(&self) -> &Windows

@@ -37,7 +37,7 @@ use Rattle.gx_machine.specs.Step.{asking_of, room_of}
 use Rattle.gx_machine.specs.Views.{IsPendingAnswer, result_len, resumed_at}
 
 -- what an instruction makes of an answer, and the copy that it takes, where one was read
-abbrev answered_by : FlatState → Reply → Result Instruction Fault → FlatState
+abbrev pub answered_by : FlatState → Reply → Result Instruction Fault → FlatState
 answered_by f reply r = option_map_or (λ i. answered_row i.row.class f i reply) (result_ok r) f
 
 abbrev copy_by : FlatState → Result Instruction Fault → Copy
@@ -53,7 +53,7 @@ by_class f i c running decoded is reply =
     ∙ ap (λ (x : Class). answered_row x f i reply) is
 
 -- an answer to code leaves the mode
-on_with : (f : FlatState) (sp : ℕ) (dest : Dest) (next : ℕ) (reply : Reply) → f.mode ≡ Running
+pub on_with : (f : FlatState) (sp : ℕ) (dest : Dest) (next : ℕ) (reply : Reply) → f.mode ≡ Running
     → going_to (replied f sp dest reply) next ≡ resumed_at (replied f sp dest reply) next Running
 on_with f sp Nowhere next reply running = ap (resumed_at (replied f sp Nowhere reply) next) running
 on_with f sp (Memory at) next reply running = ap (resumed_at (replied f sp (Memory at) reply) next) running

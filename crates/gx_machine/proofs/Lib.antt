@@ -4,6 +4,7 @@ pub mod Costs
 pub mod Fetching
 pub mod Passing
 pub mod Pops
+pub mod Puts
 pub mod Reading
 pub mod Starts
 pub mod Steps
@@ -11,3 +12,4 @@ pub mod Streams
 pub mod Tries
 pub mod Opened
 pub mod Games
+pub mod WaysBack

@@ -25,7 +25,7 @@ joined word n zero a b c x y z first then = (
 )
 joined word n (suc m) a b c x y z first then =
     let before = joined word n m a b then.0 x y then.1 first then.2 in
-    (suc before.0, (then.0, then.1, before.1, then.3, then.4))
+    (suc before.0, (then.0, then.1, before.1, then.3, then.4, then.5))
 
 -- a step that begins no probes
 free : (left : ℕ) (probes : ℕ) (m : FlatMachine) (r : Result (FlatMachine × Effect) Fault) → probes ≡ 0

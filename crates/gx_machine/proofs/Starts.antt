@@ -24,6 +24,7 @@ use Rattle.ops_print.specs.PrintRows as print
 use Rattle.gx_machine.specs.Quick.{Tries, read_as, operands_read}
 use Rattle.gx_machine.specs.Advancing.{Passes}
 use Rattle.gx_machine.specs.Machine.{Whole}
+use Rattle.gx_machine.specs.WaysBack.{HasWaysBack}
 use Rattle.gx_machine.specs.Starts.{IsStarted, begun_on, streamed_on}
 use Rattle.gx_machine.specs.MachineRows.{row_effect, with_copies}
 use Rattle.gx_machine.specs.Step.{mode_step, probes_in, stepped}
@@ -110,25 +111,25 @@ started_probes f g s = ap (probes_by f) s.reads ∙ ap (λ (d : Class). probes_o
 
 -- ---- steps after steps
 
-then_tried : (word n : ℕ) (a b c : Whole × ℕ) (r : Bool) → Passes word n a None b None
+then_tried : (word n : ℕ) (a b c : Whole × ℕ) (r : Bool) → Passes word n a None b None → HasWaysBack b.0.machine
     → Tries {S = Whole × ℕ} ⊥ (Ok r) b c (stepped b.0 word b.1) → (k : ℕ) × Passes word k a None c None
-then_tried word n a b c true first then = (suc n, (b, None, first, then, refl))
-then_tried word n a b c false first same = (n, subst (λ (x : Whole × ℕ). Passes word n a None x None) (sym same) first)
+then_tried word n a b c true first backs then = (suc n, (b, None, first, then, refl, backs))
+then_tried word n a b c false first backs same = (n, subst (λ (x : Whole × ℕ). Passes word n a None x None) (sym same) first)
 
 pub no_passes : (w : Whole) (budget : ℕ) → (word : ℕ) → (n : ℕ) × Passes word n (w, budget) None (w, budget) None
 no_passes w budget word = (0, (refl, refl))
 
-pub tried_alone : (a b : Whole × ℕ) (r : Bool)
+pub tried_alone : (a b : Whole × ℕ) (r : Bool) → HasWaysBack a.0.machine
     → ((word : ℕ) → Tries {S = Whole × ℕ} ⊥ (Ok r) a b (stepped a.0 word a.1)) → (word : ℕ)
     → (n : ℕ) × Passes word n a None b None
-tried_alone a b r tries word = then_tried word 0 a a b r (refl, refl) (tries word)
+tried_alone a b r backs tries word = then_tried word 0 a a b r (refl, refl) backs (tries word)
 
-pub tried_then : (a b c : Whole × ℕ) (r : Bool)
+pub tried_then : (a b c : Whole × ℕ) (r : Bool) → HasWaysBack a.0.machine
     → ((word : ℕ) → Tries {S = Whole × ℕ} ⊥ (Ok r) a b (stepped a.0 word a.1))
     → ((word : ℕ) → (n : ℕ) × Passes word n b None c None)
     → (word : ℕ) → (n : ℕ) × Passes word n a None c None
-tried_then a b c r tries passes word =
-    let one = tried_alone a b r tries word in
+tried_then a b c r backs tries passes word =
+    let one = tried_alone a b r backs tries word in
     let more = passes word in
     joined word one.0 more.0 a b c None None None one.1 more.1
 

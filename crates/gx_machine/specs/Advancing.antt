@@ -8,15 +8,18 @@ use Rattle.gx_state.specs.declared.effects.Effect.TheVariants.{Went, Drew, Quit}
 use Rattle.gx_machine.specs.Machine.{FlatMachine, Whole}
 use Rattle.gx_machine.specs.Step.{stepped, asking_of, IsStepWriting}
 use Rattle.gx_machine.specs.Log.{Log, logged, units_of}
+use Rattle.gx_machine.specs.WaysBack.{HasWaysBack}
 use Rattle.gx_machine.specs.declared.askings.Asking.{Asking}
 
 -- So many steps with one word, each of which goes on, asks nothing and leaves the word: from a machine and its budget
--- to those that it comes to, with what is recorded before and after them.
+-- to those that it comes to, with what is recorded before and after them. From each of them there is a way back to the
+-- copies that are kept.
 abbrev pub Passes : ℕ → ℕ → Whole × ℕ → Option Log → Whole × ℕ → Option Log → Type 0
 Passes word zero start first end last = (start ≡ end) × (first ≡ last)
 Passes word (suc n) start first end last =
     (before : Whole × ℕ) × (log : Option Log) × Passes word n start first before log
     × (stepped before.0 word before.1 ≡ Ok (end, Went)) × (last ≡ logged log before.0.machine)
+    × HasWaysBack before.0.machine
 
 -- What is recorded after a step from this machine: its event has ended, unless it asks something or wasn't made.
 abbrev pub logged_by : Effect → Option Log → FlatMachine → Option Log
@@ -47,6 +50,7 @@ pub record Advances (word : ℕ) (result : Result Effect Fault) (old : Whole × 
       (stepped before word budget) ⊎ IsUnrecorded log result (before, budget) new
   pub stands : IfOk result (λ effect. IsSome (asking_of effect) → new.0.machine ≡ before.machine)
   pub logs : last ≡ logged_after result log before.machine
+  pub backs : HasWaysBack before.machine
 
 -- How many units can still be taken: the units of a record are a number below 2^64.
 abbrev pub units_left : Option Log → ℕ

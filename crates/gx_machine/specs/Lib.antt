@@ -8,4 +8,6 @@ pub mod Starts
 pub mod Answer
 pub mod Start
 pub mod SavedCopies
+pub mod Puts
 pub mod Views
+pub mod WaysBack

@@ -1,22 +1,27 @@
 //! What a session runs on, seen through its steps and answers: a machine, or a tape that records one.
-ghost use Rattle.std.specs.Prelude.{◌≡◌, ◌≢◌, ◌≤◌, ◌-◌, ◌⊎◌, ℕ, false, [], length, Option, Ok, Some, None, IsSome};
+ghost use Rattle.std.specs.Prelude.{◌≡◌, ◌≢◌, ◌≤◌, ◌+◌, ◌-◌, ◌⊎◌, ℕ, false, [], length, Option, Ok, Some, None, IsSome};
 ghost use Rattle.std.specs.Prelude.{IfSome, IfOk, OnOk, OnErr};
 ghost use Rattle.gx_pages.specs.Memory.{HasBytes};
 ghost use Rattle.gx_state.specs.declared.effects.Effect.TheVariants.{Put};
 ghost use Rattle.gx_state.specs.declared.modes.Mode.TheVariants.{Running};
 ghost use Rattle.gx_state.specs.Copies.{IsCopyFor};
 ghost use Rattle.ops_print.specs.Asks.{is_put};
+ghost use Rattle.ops_print.specs.Puts.{most_puts};
 ghost use Rattle.gx_machine.specs.Machine.{Whole};
 ghost use Rattle.gx_machine.specs.Answer.{IsStoredAnswer, answered_whole, AnswersAsking};
+ghost use Rattle.gx_machine.specs.Puts.{put_reply, put_on, PutsBehind};
 ghost use Rattle.gx_machine.specs.SavedCopies.{restored_whole, saved_copy};
 ghost use Rattle.gx_machine.specs.Step.{stepped};
 ghost use Rattle.gx_machine.specs.Log.{Log, logged};
 ghost use Rattle.gx_machine.specs.Advancing.{units_left, Advances};
+ghost use Rattle.gx_machine.specs.WaysBack.{HasWaysBack};
 
 use crate::Asking;
-use gx_state::{Effect, FlatCopy, Reply, State};
+use arrayvec::ArrayVec;
+use gx_state::{Effect, FlatCopy, Mode, Reply, State};
 use gx_story::Story;
 use gx_words::Fault;
+use ops_print::MOST_PUTS;
 use std::alloc::{AllocError, Allocator, Global};
 
 /// Steps and the answers to what they ask, and what is recorded of them.
@@ -50,7 +55,8 @@ pub trait Engine<A: Allocator + Clone> {
         ensures none { result ≡ None → whole self.new ≡ whole self.old }
         ensures rest { result ≡ None → (whole self.old).machine.flat.mode ≢ Running → (word : ℕ)
             → IfOk (stepped (whole self.old) word budget) (λ r. is_put r.1 ≡ false) }
-        ensures logs { log self.new ≡ log self.old };
+        ensures logs { log self.new ≡ log self.old }
+        ensures backs { HasWaysBack (whole self.old).machine };
 
     /// Answers what the last step asked.
     fn finish(&mut self, reply: &Reply) -> Result<(), AllocError>
@@ -64,8 +70,24 @@ pub trait Engine<A: Allocator + Clone> {
     /// The same for a character that was put, with a reply that pushes and writes nothing. It never wants memory.
     fn finish_put(&mut self)
         requires { (whole self.old).asking ≡ Some Asking.Put }
-        ensures value { whole self.new
-            ≡ answered_whole (whole self.old) (record { value = 0; pushes = []; writes = [] }) }
+        ensures value { whole self.new ≡ answered_whole (whole self.old) put_reply }
+        ensures logs { log self.new ≡ logged (log self.old) (whole self.old).machine };
+
+    /// The characters that are put behind the one that is asked, by steps that are answered at once: the next items of
+    /// the same string or number, `most` at most. They are added to `chars`, and if there are any, the mode behind them
+    /// is answered; the machine stands, and still asks. An engine that records gives none.
+    fn more_puts(&self, most: usize, chars: &mut ArrayVec<u32, MOST_PUTS>) -> Mode
+        requires asks { (whole self.now).asking ≡ Some Asking.Put }
+        requires room { length chars.old.items + most ≤ most_puts }
+        ensures { PutsBehind (whole self.now) (log self.now) most chars.old.items chars.new.items result };
+
+    /// Answers the character that is asked and those that are put behind it, up to this mode; where the run is recorded,
+    /// that character alone. It never wants memory.
+    fn finish_puts(&mut self, mode: Mode)
+        requires asks { (whole self.old).asking ≡ Some Asking.Put }
+        requires alone { log self.old ≡ None
+            ⊎ (mode ≡ (answered_whole (whole self.old) put_reply).machine.flat.mode) }
+        ensures value { whole self.new ≡ put_on (whole self.old) mode }
         ensures logs { log self.new ≡ logged (log self.old) (whole self.old).machine };
 
     /// The copy that the save which the last step asked is to write.

@@ -10,26 +10,31 @@ ghost use Rattle.gx_state.specs.Replies.{AreInRam, IsReply};
 ghost use Rattle.gx_state.specs.Stores.{store_fault, IsMemory};
 ghost use Rattle.gx_pages.specs.Memory.{HasBytes};
 ghost use Rattle.ops_print.specs.Asks.{is_put};
+ghost use Rattle.ops_print.specs.Puts.{most_puts, PutsNext};
 ghost use Rattle.gx_undo.specs.Undo.{most_undo};
 ghost use Rattle.gx_machine.specs.declared.askings.Asking.TheVariants as asking;
 ghost use Rattle.gx_machine.specs.Answer.{answered_state, with_writes, with_pushes, IsStoredAnswer, answered_whole};
 ghost use Rattle.gx_machine.specs.Answer.{AnswersAsking};
+ghost use Rattle.gx_machine.specs.Puts.{put_reply, put_on};
 ghost use Rattle.gx_machine.specs.SavedCopies.{restored_whole, saved_copy};
 ghost use Rattle.gx_machine.specs.Step.{room_of, asking_of, stepped, IsStepWriting};
 ghost use Rattle.gx_machine.specs.Quick.{Tries, PassesUntil};
 ghost use Rattle.gx_machine.specs.Start.{first_machine};
 ghost use Rattle.gx_machine.specs.Advancing.{Advances, Passes};
+ghost use Rattle.gx_machine.specs.WaysBack.{HasWaysBack};
 ghost use Rattle.gx_machine.specs.Views.{IsPendingAnswer, result_len};
 
 use crate::printing::{is_silent, prints_at_pc, prints_next, start};
 use crate::quick::quick;
 use crate::rows::{next_put, print, quick_item, run};
 use crate::{Asking, Engine};
+use arrayvec::ArrayVec;
 use gx_operands::Plan;
 use gx_state::{Dest, Effect, FlatCopy, Mode, Reply, State};
 use gx_story::Story;
 use gx_undo::Undo;
 use gx_words::{Fault, Printing, word_bytes};
+use ops_print::MOST_PUTS;
 use std::alloc::{AllocError, Allocator, Global};
 use std::marker::Model;
 
@@ -124,6 +129,14 @@ impl<A: Allocator + Clone> Machine<A> {
         }
     }
 
+    /// Does nothing: its contract says that the way back to each copy that it keeps has no fault.
+    #[inline(always)]
+    pub fn ways_back(&self)
+        ensures { HasWaysBack self.now.machine }
+    {
+        let _stack = self.state.stack(); // a state is sound
+    }
+
     /// How many copies it keeps for undo.
     pub fn undo_len(&self) -> usize
         ensures { result ≡ length self.now.machine.undo.copies }
@@ -156,7 +169,9 @@ impl<A: Allocator + Clone> Machine<A> {
         ensures none { result ≡ None → self.new ≡ self.old }
         ensures rest { result ≡ None → self.old.machine.flat.mode ≢ Running → (word : ℕ)
             → IfOk (stepped self.old word budget) (λ r. is_put r.1 ≡ false) }
+        ensures backs { HasWaysBack self.old.machine }
     {
+        self.ways_back();
         if budget == 0 || self.state.stack().size() == 0 {
             return None;
         }
@@ -203,6 +218,7 @@ impl<A: Allocator + Clone> Machine<A> {
         let mut plan = Plan::new();
         loop {
             let passed = self.passes(budget);
+            self.ways_back();
             *left = *budget;
             passed?;
             match self.put_next(*budget) {
@@ -300,7 +316,9 @@ impl<A: Allocator + Clone> Machine<A> {
         ensures asks { self.new.asking ≡ None }
         ensures fewer { result ≡ true → budget.new < budget.old }
         ensures no_more { budget.new ≤ budget.old }
+        ensures backs { HasWaysBack self.old.machine }
     {
+        self.ways_back();
         if *budget == 0 || self.state.stack().size() == 0 {
             return false;
         }
@@ -344,7 +362,9 @@ impl<A: Allocator + Clone> Machine<A> {
         ensures asks { self.new.asking ≡ None }
         ensures fewer { result ≡ true → budget.new < budget.old }
         ensures no_more { budget.new ≤ budget.old }
+        ensures backs { HasWaysBack self.old.machine }
     {
+        self.ways_back();
         if *budget == 0 || self.state.stack().size() == 0 {
             return false;
         }
@@ -398,7 +418,9 @@ impl<A: Allocator + Clone> Machine<A> {
         ensures asks { self.new.asking ≡ None }
         ensures fewer { result ≡ Ok true → budget.new < budget.old }
         ensures no_more { budget.new ≤ budget.old }
+        ensures backs { HasWaysBack self.old.machine }
     {
+        self.ways_back();
         if *budget == 0 || self.state.stack().bytes().is_empty() {
             return Ok(false);
         }
@@ -514,10 +536,40 @@ impl<A: Allocator + Clone> Machine<A> {
     #[tactic(auto, unfolding(crate::specs::Answer::answer_of))]
     pub fn finish_put(&mut self)
         requires { self.old.asking ≡ Some asking.Put }
-        ensures { self.new ≡ answered_whole self.old (record { value = 0; pushes = []; writes = [] }) }
+        ensures { self.new ≡ answered_whole self.old put_reply }
     {
         if let Some(pending) = &self.pending {
             answer_put(&mut self.state, pending);
+        }
+        self.pending = None;
+    }
+
+    /// The characters that are put behind the one that is asked, by steps that are answered at once: the next items of
+    /// the same string or number, `most` at most. They are added to `chars`, and the mode behind them is answered.
+    #[inline(always)]
+    #[tactic(auto, unfolding(crate::specs::Answer::answer_of))]
+    pub fn more_puts(&self, most: usize, chars: &mut ArrayVec<u32, MOST_PUTS>) -> Mode
+        requires asks { self.now.asking ≡ Some asking.Put }
+        requires room { length chars.old.items + most ≤ most_puts }
+        ensures { PutsNext (answered_whole self.now put_reply).machine.flat most chars.old.items chars.new.items
+            result }
+    {
+        let Some(pending) = &self.pending else {
+            unreachable!()
+        };
+        puts_behind(&self.state, pending, most, chars)
+    }
+
+    /// Answers the character that is asked and those that are put behind it, up to this mode, with replies that push
+    /// and write nothing; this takes no memory.
+    #[inline(always)]
+    #[tactic(auto, unfolding(crate::specs::Answer::answer_of))]
+    pub fn finish_puts(&mut self, mode: Mode)
+        requires { self.old.asking ≡ Some asking.Put }
+        ensures { self.new ≡ put_on self.old mode }
+    {
+        if let Some(pending) = &self.pending {
+            answer_puts(&mut self.state, pending, mode);
         }
         self.pending = None;
     }
@@ -619,17 +671,52 @@ fn answer<A: Allocator + Clone>(
     Ok(())
 }
 
+/// The characters that are put behind the one that a state waits for, and the mode behind them.
+#[inline(always)]
+fn puts_behind<A: Allocator + Clone>(
+    state: &State<A>,
+    pending: &Pending,
+    most: usize,
+    chars: &mut ArrayVec<u32, MOST_PUTS>,
+) -> Mode
+    requires pends { IsPendingAnswer state.now.flat pending.now }
+    requires asks { pending.now.asking ≡ asking.Put }
+    requires room { length chars.old.items + most ≤ most_puts }
+    ensures { PutsNext (answered_state state.now.flat put_reply) most chars.old.items chars.new.items result }
+{
+    match pending.mode {
+        Mode::Running => Mode::Running,
+        Mode::Printing(printing) => {
+            Mode::Printing(ops_print::more_puts(state, &printing, most, chars))
+        }
+    }
+}
+
 /// Answers a state that waits until a character is put: nothing is pushed, written or stored.
 #[inline(always)]
 #[tactic(auto, using(crate::proofs::Answers::put_answered))]
 fn answer_put<A: Allocator + Clone>(state: &mut State<A>, pending: &Pending)
     requires pends { IsPendingAnswer state.old.flat pending.now }
     requires asks { pending.now.asking ≡ asking.Put }
-    ensures { state.new.flat ≡ answered_state state.old.flat (record { value = 0; pushes = []; writes = [] }) }
+    ensures { state.new.flat ≡ answered_state state.old.flat put_reply }
 {
     state.cut_stack(pending.sp);
     state.set_pc(pending.next);
     state.set_mode(pending.mode);
+}
+
+/// Answers a state that waits until a character is put, and those behind it up to this mode: nothing is pushed, written
+/// or stored.
+#[inline(always)]
+#[tactic(auto, using(crate::proofs::Puts::puts_answered))]
+fn answer_puts<A: Allocator + Clone>(state: &mut State<A>, pending: &Pending, mode: Mode)
+    requires pends { IsPendingAnswer state.old.flat pending.now }
+    requires asks { pending.now.asking ≡ asking.Put }
+    ensures { state.new.flat ≡ record (answered_state state.old.flat put_reply) { mode = mode } }
+{
+    state.cut_stack(pending.sp);
+    state.set_pc(pending.next);
+    state.set_mode(mode);
 }
 
 impl<A: Allocator + Clone> Engine<A> for Machine<A> {
@@ -651,6 +738,14 @@ impl<A: Allocator + Clone> Engine<A> for Machine<A> {
 
     fn finish_put(&mut self) {
         Machine::finish_put(self);
+    }
+
+    fn more_puts(&self, most: usize, chars: &mut ArrayVec<u32, MOST_PUTS>) -> Mode {
+        Machine::more_puts(self, most, chars)
+    }
+
+    fn finish_puts(&mut self, mode: Mode) {
+        Machine::finish_puts(self, mode);
     }
 
     fn save_copy(&self, alloc: Global) -> Result<FlatCopy, AllocError> {

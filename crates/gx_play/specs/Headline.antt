@@ -87,10 +87,18 @@
 --
 -- Each restoreundo of the session goes back to the newest saveundo that was neither used, nor discarded, nor dropped as
 -- the oldest (`LastsUndo` of gx_session/specs/Undoing), whatever was restored from files in between. The protected
--- range keeps its bytes. The bytes that each save of the session puts to its stream are read as the very copy that was
--- saved (`SavedBefore` of gx_session/specs/Runs), and so are those of every copy that fits the story. A save that was
--- one while memory had a lower ceiling, such as 0x04000000, is restored as the same copy (`SavesReadBack` of
--- gx_session/specs/Saving).
+-- range keeps its bytes. No way back has a fault (`IsSoundStep` of gx_session/specs/Sound). At each step that the run
+-- makes, each copy that is kept can be gone back to, and -1 is delivered to the store operand of its saveundo. So can
+-- the copy that a restore reads, and -1 is delivered to the store operand of its save. The bytes that each save of the
+-- session puts to its stream are read as the very copy that was saved (`IsSoundStep` too), and so are those of every
+-- copy that fits the story. A save that was one while memory had a lower ceiling, such as 0x04000000, is restored as
+-- the same copy (`SavesReadBack` of gx_session/specs/Saving).
+--
+-- A Glk call goes on only where one waits for what it is given. Then it has an answer, or a fault, and no further turn
+-- (`IsSoundCall` of Sound). Where a call asks a device, a line is awaited, or the shelf is asked for something
+-- (`IsSoundBy`). All this, and what is said of the ways back and of saves, holds of each move of the run, the one that
+-- stops it among them; of a run that was cut short it holds up to there (`moves_are_sound` of `EndsAt` and of
+-- `StopsEarly`).
 --
 -- Premises: that the story's file is the one that the shelf holds is said of a shelf that tells what it holds, as one
 -- in memory does. A real one doesn't. There the run is that of the bytes that it handed out (`loads`), and the
@@ -113,14 +121,13 @@
 -- Nothing is said of what a terminal makes of the text: the composed screen counts columns by the crate unicode_width.
 -- Some definitions are total where no run comes to one of their cases, and no clause here says that none does. Those
 -- that a reader meets are
---   - in gx_session/specs/Moves a turn that is no answer where a call has gone on (`after_given`; a clause of
---     glk_dispatch's `go_on`), one that asks for nothing (`shelf_gives`; `after_turn` there lets only the other six
---     ask), and a step that is Spent by itself (`after_effect`; no row has this effect, and that isn't proved apart);
---   - a call that goes on where none waits (`go_by` of glk_dispatch/specs/Going; a `requires` of `go_on`);
+--   - in gx_session/specs/Moves a step that is Spent by itself (`after_effect`; no row has this effect, and that isn't
+--     proved apart);
+--   - in gx_machine/specs/Step a step with an empty stack (`step_of`; the run has ended once its start function has
+--     returned);
 --   - an answer or a copy where the instruction at PC is none that asks (`answered_row` and `answered_in` of
 --     gx_machine/specs/Answer, `saved_copy` of its SavedCopies; `IsPendingAnswer` of its Views holds of every machine
---     that has asked);
---   - a fault on the way back to a copy (`restored_to` of gx_state/specs/Copies; gx_state/proofs/Backs).
+--     that has asked).
 -- Status 11 (`status_no_memory`) is a free answer wherever memory may be wanted: before anything is done, whatever the
 -- words are, so that a body that does nothing and answers so meets the contract; once the file was asked for, only
 -- where there is something that may want it (`ComesOut.memory`; `StopsEarly` of gx_session/specs/Runs; `IsRewound` and

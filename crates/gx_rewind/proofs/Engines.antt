@@ -14,6 +14,7 @@ use Rattle.gx_machine.specs.Answer.{answer_of}
 use Rattle.gx_machine.specs.Log.{Log, units_of}
 use Rattle.gx_machine.specs.Machine.{FlatMachine, Whole}
 use Rattle.gx_machine.specs.Step.{asking_of, cost_of, room_of, step_of, stepped, IsStepWriting}
+use Rattle.gx_machine.specs.WaysBack.{HasWaysBack}
 use Rattle.gx_rewind.specs.declared.books.Book.{Book}
 use Rattle.gx_rewind.specs.declared.books.Taken.{Taken}
 use Rattle.gx_rewind.specs.Path.{machine_after_event, empty_reply, answered_by_nothing, IsFit, IsQuiet}
@@ -53,8 +54,9 @@ advanced word result start budget left old new log b c records book =
 
 -- nothing was done
 pub refused : {A : Type 0} (word budget : ℕ) (w : Whole) (log : Log) (c : Book A) → log_of c w.machine ≡ log
+    → HasWaysBack w.machine
     → Advances word (Err NoMemory) (w, budget) (Some log) budget (w, budget) (Some (log_of c w.machine))
-refused word budget w log c is = record {
+refused word budget w log c is backs = record {
   count = 0;
   before = w;
   log = Some log;
@@ -62,6 +64,7 @@ refused word budget w log c is = record {
   step = inr (record { recorded = refl; refused = refl; stands = refl });
   stands = tt;
   logs = ap (λ (l : Log). Some l) is;
+  backs = backs;
 }
 
 does-lower : (wants : Type 0) (word budget left : ℕ) (before new : Whole) (result : Result Effect Fault)

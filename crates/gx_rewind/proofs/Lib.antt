@@ -11,3 +11,4 @@ pub mod Ends
 pub mod Engines
 pub mod Parts
 pub mod Fits
+pub mod Puts

@@ -12,6 +12,7 @@ use Rattle.gx_machine.specs.Advancing.{Advances, Passes, IsUnrecorded}
 use Rattle.gx_machine.specs.Log.{Log}
 use Rattle.gx_machine.specs.Machine.{FlatMachine, Whole}
 use Rattle.gx_machine.specs.Step.{asking_of, cost_of, step_of, stepped, IsStepWriting}
+use Rattle.gx_machine.specs.WaysBack.{HasWaysBack}
 use Rattle.gx_machine.proofs.Passing.{logs-none}
 use Rattle.gx_rewind.proofs.Calm.{never-spent}
 use Rattle.gx_rewind.proofs.Passing.{passed-asks}
@@ -108,6 +109,7 @@ passes-more word (suc n) more w w' budget budget' x y p = (
   passes-more word n more w p.0.0 budget p.0.1 x p.1 p.2,
   step-more p.0.0 w' word p.0.1 budget' more Went went-unspent p.3,
   p.4,
+  p.5,
 )
 
 -- steps of which the last isn't spent leave so much more
@@ -139,6 +141,7 @@ advances-more word more result old new start budget left first last unspent a = 
   step = does-or word budget left more a.before new result a.log unspent a.step;
   stands = a.stands;
   logs = a.logs;
+  backs = a.backs;
 }
 
 -- steps of which the last doesn't fit, and that one within all of the budget
@@ -146,6 +149,7 @@ pub record IsStill (word : ℕ) (old new : Whole) (start budget : ℕ) : Type 0 
   pub count : ℕ
   pub passes : Passes word count (old, start) None (new, budget) None
   pub asks : new.asking ≡ None
+  pub backs : HasWaysBack new.machine
 
 pub still : (word : ℕ) (old new : Whole) (start budget left : ℕ) → old.asking ≡ None
     → Advances word (Ok Spent) (old, start) None budget (new, left) None → IsStill word old new start budget
@@ -157,6 +161,7 @@ still word old new start budget left none a =
       count = h.count;
       passes = subst (λ (w : Whole). Passes word h.count (old, start) None (w, budget) None) (sym l.stands) h.passes;
       asks = ap (λ (w : Whole). w.asking) l.stands ∙ asks;
+      backs = subst (λ (w : Whole). HasWaysBack w.machine) (sym l.stands) h.backs;
     }
 
 pub advances-on : (word more : ℕ) (result : Result Effect Fault) (old mid : Whole) (new : Whole × ℕ)
@@ -173,4 +178,5 @@ advances-on word more result old mid new start budget s does stands = record {
   step = inl does;
   stands = stands;
   logs = logs-none result mid.machine;
+  backs = s.backs;
 }

@@ -100,6 +100,7 @@ module _ {A : Type 0} (notes : List (Note A)) (opening : FlatMachine) where
           so_far.passes,
           p.3,
           refl,
+          p.5,
         );
       }
 

@@ -12,6 +12,7 @@ use Rattle.gx_machine.specs.Answer.{answer_of}
 use Rattle.gx_machine.specs.Log.{Log, units_of}
 use Rattle.gx_machine.specs.Machine.{FlatMachine, Whole}
 use Rattle.gx_machine.specs.Step.{asking_of, cost_of, room_of, stepped, IsStepWriting}
+use Rattle.gx_machine.specs.WaysBack.{HasWaysBack}
 use Rattle.gx_machine.proofs.Costs.{cost-positive}
 use Rattle.gx_rewind.specs.declared.books.Book.{Book}
 use Rattle.gx_rewind.specs.declared.books.Note.{Note}
@@ -34,6 +35,7 @@ pub record HasAdvanced (word : ℕ) (result : Result Effect Fault) (old : Whole 
   pub step : Does (IsStepWriting before.machine budget) (λ (e : Effect). e) result (before, budget) new
       (stepped before word budget)
   pub stands : IfOk result (λ effect. IsSome (asking_of effect) → new.0.machine ≡ before.machine)
+  pub backs : HasWaysBack before.machine
 
 -- a machine that records nothing isn't refused for the record
 does-by : (word : ℕ) (result : Result Effect Fault) (log : Option Log) (before : Whole) (budget : ℕ) (new : Whole × ℕ)
@@ -55,6 +57,7 @@ has-advanced word result old budget new a =
       passes = subst (λ (l : Option Log). Passes word a.count old None (a.before, budget) l) none a.passes;
       step = does-by word result a.log a.before budget new none a.step;
       stands = a.stands;
+      backs = a.backs;
     }
 
 -- the run stops before an event that doesn't fit

@@ -11,10 +11,12 @@ ghost use Rattle.gx_machine.specs.Advancing.{Advances};
 use crate::Tape;
 use crate::books::Taken;
 use crate::replies::{copied, is_nothing};
+use arrayvec::ArrayVec;
 use gx_machine::{Engine, Machine};
-use gx_state::{Effect, FlatCopy, Reply, State};
+use gx_state::{Effect, FlatCopy, Mode, Reply, State};
 use gx_story::Story;
 use gx_words::Fault;
+use ops_print::MOST_PUTS;
 use std::alloc::{AllocError, Allocator, Global};
 
 impl<A: Allocator + Clone> Engine<A> for Tape<A> {
@@ -25,6 +27,7 @@ impl<A: Allocator + Clone> Engine<A> for Tape<A> {
     ghost log = { λ tape. Some tape.log };
 
     fn advance(&mut self, word: u32, budget: &mut u64, left: &mut u64) -> Result<Effect, Fault> {
+        self.machine.ways_back();
         if self.book.ready(&self.machine).is_err() {
             *left = *budget;
             return Err(Fault::NoMemory);
@@ -63,6 +66,14 @@ impl<A: Allocator + Clone> Engine<A> for Tape<A> {
         self.machine.finish_put();
         let units = self.book.pending;
         self.book.went(units);
+    }
+
+    fn more_puts(&self, _most: usize, _chars: &mut ArrayVec<u32, MOST_PUTS>) -> Mode {
+        Mode::Running
+    }
+
+    fn finish_puts(&mut self, _mode: Mode) {
+        self.finish_put();
     }
 
     fn save_copy(&self, alloc: Global) -> Result<FlatCopy, AllocError> {

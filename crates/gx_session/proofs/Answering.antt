@@ -1,6 +1,6 @@
 -- The machine takes a reply, or goes back to a copy, and then the text is sent that is due.
 use Rattle.std.proofs.Common.{◌≡◌, ℕ, ◌≤◌, ◌⊎◌, List, Option, Some, None, IsSome, Result, Ok, Err, IfOk, refl, ap}
-use Rattle.std.proofs.Common.{subst, sym, ◌∙◌}
+use Rattle.std.proofs.Common.{subst, sym, ◌∙◌, arith}
 use Rattle.gx_machine.specs.Machine.{FlatMachine, Whole}
 use Rattle.gx_machine.specs.Log.{Log, logged}
 use Rattle.gx_machine.specs.Advancing.{units_left, left_once_answered, left_after}
@@ -90,7 +90,7 @@ given-leads {E} whole log old mid new machine left fewer asks room g same result
     let units : new.left ≡ left = ap (λ (x : Running E). x.left) same ∙ ap (λ (x : Running E). x.left) g.ok.1 in
     record {
       none = λ e. ap (λ (x : Running E). (whole x.engine).asking) same ∙ ap (λ (w : Whole). w.asking) g.ok.0;
-      left_is = λ e. units;
+      fewer = λ e. subst (λ (n : ℕ). n ≤ left) (sym units) (omega arith);
       room = λ e.
           subst (λ (n : ℕ). n ≤ units_left (log new.engine)) (sym units)
           (subst (λ (l : Option Log). left ≤ units_left l) (sym (ap (λ (x : Running E). log x.engine) same ∙ g.ok.2))

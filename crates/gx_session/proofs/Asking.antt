@@ -1,6 +1,6 @@
 -- What the effects of a step, and the answers to what it asks, make of a run.
 use Rattle.std.proofs.Common.{◌≡◌, ◌≢◌, ℕ, ◌<◌, ◌≤◌, List, [], ◌∷◌, ◌++◌, length, ◌⊎◌, inl, inr, Bool, true, false}
-use Rattle.std.proofs.Common.{Option, Some, None, is_some, IsSome, IsTrue, Result, Ok, Err, IsOk, if◌then◌else◌, refl}
+use Rattle.std.proofs.Common.{Option, Some, None, is_some, IsSome, IsTrue, Result, Ok, Err, IsOk, IfOk, if◌then◌else◌, refl}
 use Rattle.std.proofs.Common.{ap, subst, sym, ◌∙◌, append_assoc, arith}
 use Rattle.arrayvec.specs.ArrayVec.{ArrayVec}
 use Rattle.std.specs.List.{concat}
@@ -16,6 +16,7 @@ use Rattle.gx_machine.specs.Machine.{FlatMachine, Whole}
 use Rattle.gx_machine.specs.Log.{Log, logged}
 use Rattle.gx_machine.specs.Advancing.{logged_by}
 use Rattle.gx_machine.specs.Step.{asking_of, stepped, IsStepWriting}
+use Rattle.gx_machine.specs.WaysBack.{HasWaysBack}
 use Rattle.gx_outside.specs.Outside.{FlatSource, FlatShelf}
 use Rattle.gx_outside.specs.Shelves.{Request, Answer, Trace}
 use Rattle.glk_world.specs.World.{Scene, FlatWorld, Said, after, on_world}
@@ -27,6 +28,7 @@ use Rattle.glk_replies.specs.declared.Given.TheVariants as given
 use Rattle.glk_replies.specs.Turns.{IsAnswered}
 use Rattle.glk_dispatch.specs.Calls.{glk_call, IsGrowing}
 use Rattle.glk_dispatch.specs.Going.{glk_go_on, go_grows}
+use Rattle.glk_dispatch.specs.Turns.{Awaits}
 use Rattle.glk_text_calls.specs.Output.{putting}
 use Rattle.glk_text_calls.specs.Putting.{put_grows_one}
 use Rattle.gx_session.specs.declared.ends.Stop.{Stop}
@@ -54,15 +56,16 @@ use Rattle.gx_session.specs.Asked.{effect_at, asked, asked_at}
 use Rattle.gx_session.specs.Holding.{SendStep, Handed, HeldRun, WordIs, History, configuration_of, IsHistory}
 use Rattle.gx_session.specs.Standing.{act_of, Standing, Ready, Going, IsInCall, HasStopped, Early, Follows, Resumes}
 use Rattle.gx_session.specs.Standing.{ResumesWithReply, TakesTurn, GoesOn, TakesInput}
-use Rattle.gx_session.specs.Outcomes.{IsReadBack, EventGives, FaultGives}
+use Rattle.gx_session.specs.Outcomes.{EventGives, FaultGives}
+use Rattle.gx_session.specs.Sound.{IsReadBack, IsSoundStep, IsSoundCall, IsSoundBy}
 use Rattle.gx_session.proofs.Parts.{AnswerWants, BeginsSave, RestoreWants}
 use Rattle.std.specs.Prelude.{IsOkAnd}
 use Rattle.gx_session.proofs.Calling.{answered-and}
-use Rattle.gx_session.proofs.Steps.{step-does, step-faults, step-asks, step-effect, step-asks-nothing, ok-is}
-use Rattle.gx_session.proofs.Steps.{asked-same}
+use Rattle.gx_session.proofs.Steps.{step-does, step-faults, step-asks, step-effect, step-only, step-none}
+use Rattle.gx_session.proofs.Steps.{step-asks-nothing, ok-is, asked-same}
 use Rattle.gx_session.proofs.NextLines.{shorter-input}
 use Rattle.gx_session.proofs.Playing.{here, moves-on, stops-at, wants, wants-line}
-use Rattle.gx_session.proofs.Saved.{unsaved, saved-of}
+use Rattle.gx_session.proofs.Sound.{RestoresBack, step-sound, only-one, only-none}
 use Rattle.rand_core.specs.Stream.{Stream, next_u32}
 
 -- a call on a world that is answered
@@ -218,9 +221,9 @@ module _ {K : Type 0} {sending : SendStep K} (start : Configuration) (entry : Ha
     pub step-follows : (w : Whole) (left : ℕ) (does : Effect)
         → stepped (record { machine = h.machine; asking = asking }) word h.left ≡ Ok ((w, left), does)
         → (IsSome (asking_of does) → w.machine ≡ h.machine) → (log : Option Log)
-        → log ≡ logged_by does h.log h.machine
+        → log ≡ logged_by does h.log h.machine → HasWaysBack h.machine
         → Follows start entry (record h { machine = w.machine; log = log }) d left does
-    step-follows w left does e stand log logs = record {
+    step-follows w left does e stand log logs backs = record {
       before = h.machine;
       recorded = h.log;
       word = word;
@@ -229,6 +232,8 @@ module _ {K : Type 0} {sending : SendStep K} (start : Configuration) (entry : Ha
       event = step-does m asking word first w left does e;
       asks = step-asks m asking word first w left does e;
       effect = step-effect m asking word first w left does e;
+      only = step-only m asking word first w left does e;
+      backs = backs;
       stands = stand;
       logs = logs;
     }
@@ -252,15 +257,18 @@ module _ {K : Type 0} {sending : SendStep K} (start : Configuration) (entry : Ha
 
     pub step-stops : (machine : FlatMachine) (log : Option Log) (f : Fault) (now : Option Asking)
         → machine ≡ h.machine → log ≡ h.log → now ≡ None
-        → stepped (record { machine = h.machine; asking = asking }) word h.left ≡ Err f
+        → stepped (record { machine = h.machine; asking = asking }) word h.left ≡ Err f → HasWaysBack h.machine
         → HasStopped start entry (record h { machine = machine; log = log }) now d (stop.Faulted f)
-    step-stops machine log f now same stands nothing e =
+    step-stops machine log f now same stands nothing e backs =
         subst (λ (x : FlatMachine). HasStopped start entry (record h { machine = x; log = log }) now d
         (stop.Faulted f)) (sym same)
         (subst (λ (l : Option Log). HasStopped start entry (record h { log = l }) now d (stop.Faulted f)) (sym stands)
         (stops-at start entry h d steps g (stop.Faulted f) g.now.past steps h d now g.now.is_past (λ long. g.now.few)
         (λ wait. g.now.reads)
-        (step-faults m asking word first f e) (nothing ∙ sym (step-asks-nothing m asking word first f e))))
+        (step-faults m asking word first f e)
+        (step-sound m effect.Went (only-none m effect.Went (step-none m asking word first f e)) backs tt
+        (λ begins. absurd begins))
+        (nothing ∙ sym (step-asks-nothing m asking word first f e))))
 
   module _ (left : ℕ) where
     -- what was done stands
@@ -277,6 +285,15 @@ module _ {K : Type 0} {sending : SendStep K} (start : Configuration) (entry : Ha
       reads = i.reads;
     }
 
+    -- the step that it comes from
+    abbrev at-step : (does : Effect) → Follows start entry h d left does → Configuration
+    at-step does f = here start entry (record h { machine = f.before; log = f.recorded }) d steps f.going.now
+
+    follows-soundly : (does : Effect) (f : Follows start entry h d left does) → RestoresBack (at-step does f) (Some does)
+        → (BeginsSave (at-step does f) (Some does) → ⊥) → IsSoundStep (at-step does f)
+    follows-soundly does f restores none =
+        step-sound (at-step does f) does f.only f.backs restores (λ begins. absurd (none begins))
+
     -- the configuration that the step comes to
     abbrev stepped-to : History → Option Log → Configuration
     stepped-to p log = configuration_of p steps (record h { left = left; log = log }) d
@@ -290,9 +307,7 @@ module _ {K : Type 0} {sending : SendStep K} (start : Configuration) (entry : Ha
         record {
           now = moves-on start entry (record h { machine = f.before; log = f.recorded }) d steps g g.now.past steps
               (record h { left = left }) d (stood f.before f.recorded g.now.past g.now.is_past) g.now.few g.now.reads
-              act
-              (saved-of (here start entry (record h { machine = f.before; log = f.recorded }) d steps g.now)
-              effect.Went (f.effect (λ e. cc)) (λ begins. absurd begins));
+              act (follows-soundly effect.Went f tt (λ begins. begins));
           quiet = g.quiet;
         }
 
@@ -316,8 +331,7 @@ module _ {K : Type 0} {sending : SendStep K} (start : Configuration) (entry : Ha
         record {
           now = moves-on start entry (record h { machine = f.before; log = f.recorded }) d steps g used steps
               (record h { left = left; word = None }) d is g.now.few g.now.reads act
-              (saved-of (here start entry (record h { machine = f.before; log = f.recorded }) d steps g.now)
-              effect.Drew (f.effect (λ e. cc)) (λ begins. absurd begins));
+              (follows-soundly effect.Drew f tt (λ begins. begins));
           quiet = g.quiet;
         }
 
@@ -328,7 +342,8 @@ module _ {K : Type 0} {sending : SendStep K} (start : Configuration) (entry : Ha
         stops-at start entry (record h { machine = f.before; log = f.recorded }) d steps g stop.Ended g.now.past steps
         (record h { left = left }) d asking (stood f.before f.recorded g.now.past g.now.is_past)
         (λ long. g.now.few) (λ wait. g.now.reads)
-        (f.event ∙ ap (λ (l : Option Log). stops stop.Ended (stepped-to g.now.past l)) (sym f.logs)) nothing
+        (f.event ∙ ap (λ (l : Option Log). stops stop.Ended (stepped-to g.now.past l)) (sym f.logs))
+        (follows-soundly effect.Quit f tt (λ begins. begins)) nothing
 
     pub spent-on : (asking : Option Asking) → asking ≡ None → Follows start entry h d left effect.Spent
         → HasStopped start entry (record h { left = left }) asking d stop.Spent
@@ -337,7 +352,8 @@ module _ {K : Type 0} {sending : SendStep K} (start : Configuration) (entry : Ha
         stops-at start entry (record h { machine = f.before; log = f.recorded }) d steps g stop.Spent g.now.past steps
         (record h { left = left }) d asking (stood f.before f.recorded g.now.past g.now.is_past)
         (λ long. g.now.few) (λ wait. g.now.reads)
-        (f.event ∙ ap (λ (l : Option Log). stops stop.Spent (stepped-to g.now.past l)) (sym f.logs)) nothing
+        (f.event ∙ ap (λ (l : Option Log). stops stop.Spent (stepped-to g.now.past l)) (sym f.logs))
+        (follows-soundly effect.Spent f tt (λ begins. begins)) nothing
 
     -- An asking: the machine stands as before the step, and nothing more is recorded.
     pub record Asks (machine : FlatMachine) (recorded : Option Log) (does : Effect) : Type 0 where
@@ -348,6 +364,7 @@ module _ {K : Type 0} {sending : SendStep K} (start : Configuration) (entry : Ha
           (record h { machine = machine; log = recorded }) d in asked m ≡ asking_of does
       pub effect_is : let m = configuration_of going.now.past steps
           (record h { machine = machine; log = recorded }) d in effect_at m ≡ Some does
+      pub backs : HasWaysBack machine
 
     pub asks-now : (does : Effect) → Follows start entry h d left does → IsSome (asking_of does)
         → Asks h.machine h.log does
@@ -358,6 +375,7 @@ module _ {K : Type 0} {sending : SendStep K} (start : Configuration) (entry : Ha
           event = f.event;
           asking_is = f.asks some;
           effect_is = f.effect (not-spent does some);
+          backs = f.backs;
         } in
         subst (λ (l : Option Log). Asks h.machine l does) (sym (f.logs ∙ asking-unlogged does f.recorded f.before some))
         (subst (λ (x : FlatMachine). Asks x f.recorded does) (sym (f.stands some)) at_before)
@@ -367,11 +385,12 @@ module _ {K : Type 0} {sending : SendStep K} (start : Configuration) (entry : Ha
     pub fault-stops : (f : Fault) (world : FlatWorld) (asking : Option Asking) → world ≡ h.world
         → asking ≡ asked (here start entry h d phase g.now)
         → act_of (here start entry h d phase g.now) ≡ stops (stop.Faulted f) (here start entry h d phase g.now)
+        → IsSoundBy phase (here start entry h d phase g.now)
         → HasStopped start entry (record h { world = world }) asking d (stop.Faulted f)
-    fault-stops f world asking same asks-is e =
+    fault-stops f world asking same asks-is e sound =
         subst (λ (x : FlatWorld). HasStopped start entry (record h { world = x }) asking d (stop.Faulted f)) (sym same)
         (stops-at start entry h d phase g (stop.Faulted f) g.now.past phase h d asking g.now.is_past
-        (λ long. g.now.few) (λ wait. g.now.reads) e asks-is)
+        (λ long. g.now.few) (λ wait. g.now.reads) e sound asks-is)
 
   -- THE ANSWER TO AN ASKING, or the way back to a copy
   module _ (asking : Option Asking) (left : ℕ) (machine : FlatMachine) (wanted : Type 0)
@@ -409,7 +428,7 @@ module _ {K : Type 0} {sending : SendStep K} (start : Configuration) (entry : Ha
 
     pub resumed-on : Standing start entry resumed-held d steps
     resumed-on = moves-on start entry before d r.phase r.going r.going.now.past steps resumed-held d resumed-past
-        r.going.now.few r.going.now.reads resumed-act r.saved
+        r.going.now.few r.going.now.reads resumed-act r.sound
 
     pub resumed-early : wanted → (h' : HeldRun) → h'.machine ≡ h.machine → h'.left ≡ h.left → h'.log ≡ h.log
         → h'.coming ≡ h.coming → (asking' : Option Asking) → asking' ≡ asking
@@ -458,7 +477,7 @@ module _ {K : Type 0} {sending : SendStep K} (start : Configuration) (entry : Ha
         r.event ∙ e ∙ ap (λ (x : FlatWorld). moves_to (record called { world = x; phase = asks t w })) turned-world in
         record {
           now = moves-on start entry turning d steps r.going r.going.now.past (asks t w) h d
-              (turn-past h refl refl refl refl) r.going.now.few r.going.now.reads act r.saved;
+              (turn-past h refl refl refl refl) r.going.now.few r.going.now.reads act r.sound;
           asking_is = r.asks ∙ asked-same called (configuration_of r.going.now.past (asks t w) h d) refl refl;
         }
 
@@ -479,7 +498,7 @@ module _ {K : Type 0} {sending : SendStep K} (start : Configuration) (entry : Ha
         r.event ∙ e ∙ ap (λ (x : FlatWorld). moves_to (record called { world = x; phase = asks t w })) grids in
         let waits : IsInCall start entry h' asking d (asks t w) = record {
           now = moves-on start entry turning d steps r.going r.going.now.past (asks t w) h' d
-              (turn-past h' refl refl refl refl) r.going.now.few r.going.now.reads act r.saved;
+              (turn-past h' refl refl refl refl) r.going.now.few r.going.now.reads act r.sound;
           asking_is = r.asks ∙ asked-same called (configuration_of r.going.now.past (asks t w) h' d) refl refl;
         } in
         subst (λ (x : FlatWorld). IsInCall start entry (record h { world = x }) asking d (asks t w)) (sym shown) waits
@@ -493,7 +512,7 @@ module _ {K : Type 0} {sending : SendStep K} (start : Configuration) (entry : Ha
         ∙ ap (λ (x : FlatWorld). stops stop.Exited (record called { world = x; left = w.left })) turned-world in
         stops-at start entry turning d steps r.going stop.Exited r.going.now.past steps
         (record h { left = w.left }) d asking (turn-past (record h { left = w.left }) refl refl refl refl)
-        (λ long. r.going.now.few) (λ wait. r.going.now.reads) act
+        (λ long. r.going.now.few) (λ wait. r.going.now.reads) act r.sound
         (r.asks ∙ asked-same called (configuration_of r.going.now.past steps (record h { left = w.left }) d) refl refl)
 
     pub turn-stuck : t ≡ turn.Stuck → HasStopped start entry h asking d stop.Stuck
@@ -502,7 +521,7 @@ module _ {K : Type 0} {sending : SendStep K} (start : Configuration) (entry : Ha
         r.event ∙ ap (λ (x : Turn). after_turn called w (Ok (r.said, x))) e
         ∙ ap (λ (x : FlatWorld). stops stop.Stuck (record called { world = x })) turned-world in
         stops-at start entry turning d steps r.going stop.Stuck r.going.now.past steps h d asking
-        (turn-past h refl refl refl refl) (λ long. r.going.now.few) (λ wait. r.going.now.reads) act
+        (turn-past h refl refl refl refl) (λ long. r.going.now.few) (λ wait. r.going.now.reads) act r.sound
         (r.asks ∙ asked-same called (configuration_of r.going.now.past steps h d) refl refl)
 
     -- it is answered at once
@@ -514,7 +533,7 @@ module _ {K : Type 0} {sending : SendStep K} (start : Configuration) (entry : Ha
       moved = r.moved;
       going = r.going;
       event = r.event ∙ ap (λ (x : Turn). after_turn called w (Ok (r.said, x))) e;
-      saved = r.saved;
+      sound = r.sound;
       asks = r.asks;
       memory = λ takes. r.memory (subst (λ (x : Turn). TurnWants h.log h.machine (r.said, x)) (sym e) takes);
     }
@@ -560,7 +579,8 @@ module _ {K : Type 0} {sending : SendStep K} (start : Configuration) (entry : Ha
         (record m { asked = m.asked ++ (request_for q, Ok a) ∷ []; phase = goes_on (given_of a) w })) same in
         record {
           now = moves-on start entry h d (asks (turn_of q) w) g p
-              (goes_on (given_of answer) w) h d' past g.now.few g.now.reads act (unsaved m (λ e. cc));
+              (goes_on (given_of answer) w) h d' past g.now.few g.now.reads act
+              (inr (subst (λ (o : Option Request). IsSome o) (sym (request-is q)) refl));
           asking_is = asks-is ∙ asked-same m (configuration_of p (goes_on (given_of answer) w) h d') refl refl;
         }
 
@@ -605,7 +625,7 @@ module _ {K : Type 0} {sending : SendStep K} (start : Configuration) (entry : Ha
         stops-at start entry h d (asks t w) g why p (asks t w) h' (record d { source = source }) asking
         (still-awaiting h' same p source left reads (ap (λ (x : HeldRun). x.word) held) g.now.is_past) few
         (λ other. absurd (other line-stop))
-        (line-act l e ∙ e' ∙ ap (stops why) (sym same-configuration))
+        (line-act l e ∙ e' ∙ ap (stops why) (sym same-configuration)) (inl is)
         (asks-is ∙ sym at ∙ ap (asked_at why) (sym same-configuration))
 
   -- A LINE WAS TAKEN
@@ -659,7 +679,7 @@ module _ {K : Type 0} {sending : SendStep K} (start : Configuration) (entry : Ha
         taken-act ∙ shown-line p h.echo in
         let waits : IsInCall start entry h' asking d (goes_on (given.Line chars) w) = record {
           now = moves-on start entry was d-was (asks r.turn w) r.going p
-              (goes_on (given.Line chars) w) h' d past r.few (inr less) act (unsaved asking-at (λ e. cc));
+              (goes_on (given.Line chars) w) h' d past r.few (inr less) act (inl r.is_wait);
           asking_is = r.asking_is ∙ asked-same asking-at (configuration_of p (goes_on (given.Line chars) w) h' d) refl
               refl;
         } in
@@ -813,6 +833,12 @@ module _ {K : Type 0} {sending : SendStep K} (start : Configuration) (entry : Ha
     asking-early world asking asks-is takes = wants start entry h d steps a.going (record h { world = world }) asking
         (asking-wants asking asks-is takes) refl refl refl refl
 
+    -- what it asks is done soundly
+    pub asking-sound : RestoresBack asking-here (Some does)
+        → (BeginsSave asking-here (Some does) → IsReadBack h.machine.flat) → IsSoundStep asking-here
+    asking-sound restores saves =
+        step-sound asking-here does (only-one asking-here does a.effect_is) a.backs restores saves
+
     -- the machine takes an answer, or goes back to a copy
     pub asking-resumes : (asking : Option Asking) (world : FlatWorld) (said : Said) (machine : FlatMachine)
         (wanted : Type 0) → asking ≡ asking_of does → world ≡ after h.world said
@@ -823,16 +849,16 @@ module _ {K : Type 0} {sending : SendStep K} (start : Configuration) (entry : Ha
           log = logged asking-here.log asking-here.machine;
           phase = steps;
         })
-        → (BeginsSave asking-here (Some does) → IsReadBack h.machine.flat) → (wanted → AsksMemory)
-        → Resumes start entry (record h { world = world }) asking d left machine wanted
-    asking-resumes asking world said machine wanted asks-is moved e saved takes = record {
+        → RestoresBack asking-here (Some does) → (BeginsSave asking-here (Some does) → IsReadBack h.machine.flat)
+        → (wanted → AsksMemory) → Resumes start entry (record h { world = world }) asking d left machine wanted
+    asking-resumes asking world said machine wanted asks-is moved e restores saves takes = record {
       world = h.world;
       said = said;
       phase = steps;
       moved = moved;
       going = a.going;
       event = e;
-      saved = saved-of asking-here does a.effect_is saved;
+      sound = asking-sound restores saves;
       asks = asks-is ∙ sym a.asking_is;
       memory = λ x. asking-wants asking asks-is (takes x);
     }
@@ -840,15 +866,16 @@ module _ {K : Type 0} {sending : SendStep K} (start : Configuration) (entry : Ha
     pub call-turns : (asking : Option Asking) (world : FlatWorld) (said : Said) (w : GlkWait) (t : Turn)
         → asking ≡ asking_of does → world ≡ after h.world said
         → act_of asking-here ≡ after_turn asking-here w (Ok (said, t))
-        → (BeginsSave asking-here (Some does) → ⊥) → (TurnWants h.log h.machine (said, t) → AsksMemory)
+        → RestoresBack asking-here (Some does) → (BeginsSave asking-here (Some does) → IsReadBack h.machine.flat)
+        → (TurnWants h.log h.machine (said, t) → AsksMemory)
         → TakesTurn start entry (record h { world = world }) asking d w t
-    call-turns asking world said w t asks-is moved e unsaving takes = record {
+    call-turns asking world said w t asks-is moved e restores saves takes = record {
       world = h.world;
       said = said;
       moved = moved;
       going = a.going;
       event = e;
-      saved = saved-of asking-here does a.effect_is (λ begins. absurd (unsaving begins));
+      sound = asking-sound restores saves;
       asks = asks-is ∙ sym a.asking_is;
       memory = λ x. asking-wants asking asks-is (takes x);
     }
@@ -862,6 +889,16 @@ module _ {K : Type 0} {sending : SendStep K} (start : Configuration) (entry : Ha
           → glk_go_on h.world.scene flat w.room g ≡ r → act_of going-on ≡ after_given going-on w r
       given-does flat r same e = ap (after_given going-on w)
           (subst (λ (x : FlatState). glk_go_on h.world.scene x w.room g ≡ r) same e)
+
+      -- a call waits for it, and is answered or has a fault
+      pub given-sound : (flat : FlatState) (r : Result (Said × Turn) Fault) → flat ≡ h.machine.flat
+          → glk_go_on h.world.scene flat w.room g ≡ r → Awaits h.world.scene g → IfOk r (λ p. IsAnswered p.1)
+          → IsSoundCall going-on g w
+      given-sound flat r same e awaits answers = record {
+        awaits = awaits;
+        answers = subst (λ (x : Result (Said × Turn) Fault). IfOk x (λ p. IsAnswered p.1))
+            (sym (subst (λ (x : FlatState). glk_go_on h.world.scene x w.room g ≡ r) same e)) answers;
+      }
 
       -- it wants memory
       pub given-early : (world : FlatWorld) (flat : FlatState) → flat ≡ h.machine.flat
@@ -877,15 +914,16 @@ module _ {K : Type 0} {sending : SendStep K} (start : Configuration) (entry : Ha
           ) refl refl refl refl
 
       pub given-turns : (world : FlatWorld) (said : Said) (t : Turn) (flat : FlatState) → world ≡ after h.world said
-          → flat ≡ h.machine.flat → glk_go_on h.world.scene flat w.room g ≡ Ok (said, t)
-          → GoesOn start entry (record h { world = world }) asking d w t
-      given-turns world said t flat moved same e = record {
+          → flat ≡ h.machine.flat → glk_go_on h.world.scene flat w.room g ≡ Ok (said, t) → Awaits h.world.scene g
+          → IsAnswered t → GoesOn start entry (record h { world = world }) asking d w t
+      given-turns world said t flat moved same e awaits answered = record {
         world = h.world;
         said = said;
         given = g;
         moved = moved;
         going = on-ready asking g w waits;
         event = given-does flat (Ok (said, t)) same e;
+        sound = given-sound flat (Ok (said, t)) same e awaits answered;
         asks = waits.asking_is;
         memory = λ takes. (
           waits.asking_is,
@@ -906,7 +944,7 @@ module _ {K : Type 0} {sending : SendStep K} (start : Configuration) (entry : Ha
     going = r.going;
     event = r.event ∙ ap (λ (x : Turn). after_given
         (here start entry (record h { world = r.world }) d (goes_on r.given w) r.going.now) w (Ok (r.said, x))) is;
-    saved = unsaved (here start entry (record h { world = r.world }) d (goes_on r.given w) r.going.now) (λ e. cc);
+    sound = r.sound;
     asks = r.asks;
     memory = λ takes. r.memory (subst (λ (x : Turn). TurnWants h.log h.machine (r.said, x)) (sym is) takes);
   }

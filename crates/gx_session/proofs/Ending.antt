@@ -1,5 +1,5 @@
 -- What a whole run reports, and its ending.
-use Rattle.std.proofs.Common.{◌≡◌, ◌≢◌, ℕ, ◌+◌, ◌-◌, ◌<◌, ◌≤◌, ◌==◌, if◌then◌else◌, ◌⊎◌, inl, inr, List, [], ◌∷◌, ◌++◌}
+use Rattle.std.proofs.Common.{◌≡◌, ◌≢◌, ℕ, ◌+◌, ◌-◌, ◌<◌, ◌≤◌, ◌==◌, if◌then◌else◌, inl, inr, List, [], ◌∷◌, ◌++◌}
 use Rattle.std.proofs.Common.{map, Option, None, Result, Ok, Err, refl, ap, subst, sym, ◌∙◌, arith, append_assoc}
 use Rattle.std.proofs.Common.{append-nil}
 use Rattle.gx_words.specs.declared.faults.Fault.{Fault}
@@ -37,7 +37,7 @@ use Rattle.gx_session.specs.Outcomes.{IsStop, halt_of_shelf, Keeps}
 use Rattle.gx_session.proofs.Parts.{IsFront, AreDrawn, AwaitedAt, LongAt, read_failures}
 use Rattle.gx_session.proofs.Calling.{chain-map}
 use Rattle.gx_session.proofs.Counting.{blames-same}
-use Rattle.gx_session.proofs.Playing.{cut-at, none-sent, none-asked, input-left, words-left}
+use Rattle.gx_session.proofs.Playing.{cut-at, none-sent, input-left, words-left}
 use Rattle.gx_session.proofs.Sinks.{took-whole, takes-front}
 
 pub status-low : (why : Stop) → stop_status why < status_shelf_fault
@@ -141,7 +141,7 @@ module _ {K : Type 0} {sending : SendStep K} (start : Configuration) (entry : Ha
         ∙ ap (λ (x : Trace). (x ++ map store_call front) ++ call) (sym asked-then))
         (λ other.
         subst (LeavesInput start.input m.input h.coming entry.source d.source (AwaitedAt start None)
-        (LongAt start None)) (sym (no-failures fault)) input-then) words-are t.saves
+        (LongAt start None)) (sym (no-failures fault)) input-then) words-are t.sound
 
     pub closes : (r : Result (Unit {0}) Halt) → StoresAll (stores_of h.world.scene) asked r
         → EndingGives start entry h asking d-now why r
@@ -314,7 +314,7 @@ ended-at {sending = sending} start entry h asking d why fewer f before now reads
           ∙ ap (λ (x : Scene). e.configuration.asked ++ map store_call (stores_of x)) (sym scene);
       input_is = input-are start entry h asking d0 why t;
       words_are = words-are start entry h asking d0 why t;
-      saves_are = t.saves;
+      moves_are_sound = t.sound;
     }
 
 -- A whole run is the session, over these calls of the sink.

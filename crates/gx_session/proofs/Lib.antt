@@ -15,9 +15,10 @@ pub mod NextLines
 pub mod Parts
 pub mod Passing
 pub mod Playing
+pub mod Puts
 pub mod Recording
 pub mod Rooms
-pub mod Saved
+pub mod Sound
 pub mod Saving
 pub mod Screens
 pub mod Sinks

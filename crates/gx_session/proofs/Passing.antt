@@ -41,7 +41,7 @@ passed-going start entry d h word (suc n) w w' left left' first last drawn nothi
     let mid : HeldRun = record h { machine = before.machine; left = p.0.1; log = p.1 } in
     let reached = passed-going start entry d h word n w before left p.0.1 first p.1 drawn nothing going p.2 in
     let follows = step-follows start entry mid d before.asking word drawn reached w' left' effect.Went p.3
-    (λ some. absurd cc) last p.4 in
+    (λ some. absurd cc) last p.4 p.5 in
     went-on start entry (record mid { machine = w'.machine; log = last }) d left' follows
 
 -- the last step of an advance that is answered with an effect

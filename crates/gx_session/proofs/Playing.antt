@@ -36,7 +36,7 @@ use Rattle.gx_session.specs.Configurations.{Configuration, Phase, steps, asks, m
 use Rattle.gx_session.specs.Moves.{request_of, move_of, is_due_by, sends_now, all_sent}
 use Rattle.gx_session.specs.Session.{RunEnd, final_of}
 use Rattle.gx_session.specs.Asked.{asked, asked_at}
-use Rattle.gx_session.specs.Runs.{IsSaved, SavedBefore}
+use Rattle.gx_session.specs.Sound.{IsSoundBy, MovesSoundly}
 use Rattle.gx_session.specs.Reads.{LeavesInput}
 use Rattle.gx_session.specs.Holding.{SendStep, Handed, HeldRun, WordIs, History, configuration_of, HasTaken, IsHistory}
 use Rattle.gx_session.specs.Holding.{IsRead}
@@ -45,7 +45,7 @@ use Rattle.gx_session.specs.Finishing.{HasShown, Told}
 use Rattle.gx_session.specs.Outcomes.{halt_of_send, halt_of_shelf, SendsAll, Flushes}
 use Rattle.gx_session.proofs.Parts.{IsFront, AreDrawn, AwaitedAt, LongAt, IsLineCut, with_all, read_failures}
 use Rattle.gx_session.proofs.Calling.{chain-append}
-use Rattle.gx_session.proofs.Saved.{unsaved-send, saved-more, saved-all}
+use Rattle.gx_session.proofs.Sound.{sends-soundly, sound-more, sound-all}
 use Rattle.gx_session.proofs.Texts.{final-grows}
 use Rattle.gx_session.proofs.Finals.{quiet-sent, stop-stays, stop-comes, reached-goes, move-sends, move-acts}
 use Rattle.rand_core.specs.Stream.{Stream}
@@ -82,7 +82,7 @@ starts answers d h first none nothing going empty left =
       few = omega arith;
       reads = inl refl;
       reached = refl;
-      saves = λ i less m reached. absurd (omega arith);
+      sound = λ i m less reached. absurd (omega arith);
       same_end = refl;
     } in
     record { now = now; quiet = due-of-none h.world.text empty }
@@ -104,7 +104,7 @@ has-taken sending entry now now' sent text before call =
     (chain-append sending entry now now' (map whole_send sent) (whole_send text ∷ []) before (now', call, refl))
 
 -- what is due of it
-due-is : (enough : ℕ) (sent : List (List ℕ)) (text : List ℕ) (b : Bool) → nat_le enough (length text) ≡ b
+pub due-is : (enough : ℕ) (sent : List (List ℕ)) (text : List ℕ) (b : Bool) → nat_le enough (length text) ≡ b
     → is_due enough sent (concat sent ++ text) ≡ b
 due-is enough sent text b e = ap (λ (x : List ℕ). nat_le enough (length x)) (pending-is sent text) ∙ e
 
@@ -120,9 +120,9 @@ pub cut-at : {K : Type 0} {sending : SendStep K} → (start : Configuration) (en
     → exit.asked ≡ m.asked ++ refused_requests cut
     → ((IsLineCut moves cut m → ⊥) → LeavesInput start.input m.input h.coming entry.source exit.source
     (AwaitedAt start moves) (LongAt start moves) (read_failures (halt_status why)))
-    → AreDrawn m.words exit.words → SavedBefore start moves → Early start entry h asking exit why
+    → AreDrawn m.words exit.words → MovesSoundly start moves → Early start entry h asking exit why
 cut-at start entry exit h asking why moves cut m sends is status machine left log front calls chain shown questions
-    input words saves = record {
+    input words sound = record {
       sends = sends;
       chain = chain;
       stops = λ fewer before now reads. record {
@@ -140,7 +140,7 @@ cut-at start entry exit h asking why moves cut m sends is status machine left lo
         asked_are = questions;
         input_is = input;
         words_are = words;
-        saves_are = saves;
+        moves_are_sound = sound;
       };
     }
 
@@ -187,9 +187,9 @@ module _ {K : Type 0} {sending : SendStep K} (start : Configuration) (entry : Ha
     abbrev pub moves-on : (g : Ready start entry h d phase) (p' : History) (phase' : Phase) (h' : HeldRun)
         (d' : Handed sending) → IsHistory start entry p' h' d' → length h'.ahead < piece
         → IsRead start.input entry h' d'
-        → act_of (here g.now) ≡ moves_to (configuration_of p' phase' h' d') → IsSaved (here g.now)
+        → act_of (here g.now) ≡ moves_to (configuration_of p' phase' h' d') → IsSoundBy phase (here g.now)
         → Standing start entry h' d' phase'
-    moves-on g p' phase' h' d' is few reads act saved =
+    moves-on g p' phase' h' d' is few reads act sound =
         let move : move_of (here g.now) ≡ moves_to (configuration_of p' phase' h' d') =
         move-acts (here g.now) g.quiet ∙ act in
         record {
@@ -199,7 +199,7 @@ module _ {K : Type 0} {sending : SendStep K} (start : Configuration) (entry : Ha
           few = few;
           reads = reads;
           reached = reached-goes start (here g.now) (configuration_of p' phase' h' d') g.now.moves g.now.reached move;
-          saves = saved-more start g.now.moves (here g.now) g.now.reached saved g.now.saves;
+          sound = sound-more start g.now.moves (here g.now) g.now.reached (λ quiet. sound) g.now.sound;
           same_end = stop-stays (here g.now) (configuration_of p' phase' h' d') move ∙ g.now.same_end;
         }
 
@@ -207,9 +207,9 @@ module _ {K : Type 0} {sending : SendStep K} (start : Configuration) (entry : Ha
     pub stops-at : (g : Ready start entry h d phase) (why : Stop) (p' : History) (phase' : Phase) (h' : HeldRun)
         (d' : Handed sending) (asking : Option Asking) → IsHistory start entry p' h' d'
         → (why ≢ stop.LineTooLong → length h'.ahead < piece) → ((IsLineStop why → ⊥) → IsRead start.input entry h' d')
-        → act_of (here g.now) ≡ stops why (configuration_of p' phase' h' d')
+        → act_of (here g.now) ≡ stops why (configuration_of p' phase' h' d') → IsSoundBy phase (here g.now)
         → asking ≡ asked_at why (configuration_of p' phase' h' d') → HasStopped start entry h' asking d' why
-    stops-at g why p' phase' h' d' asking is few reads act asking-is =
+    stops-at g why p' phase' h' d' asking is few reads act sound asking-is =
         let move : move_of (here g.now) ≡ stops why (configuration_of p' phase' h' d') =
         move-acts (here g.now) g.quiet ∙ act in
         record {
@@ -219,8 +219,8 @@ module _ {K : Type 0} {sending : SendStep K} (start : Configuration) (entry : Ha
           few = few;
           reads = reads;
           is_end = sym g.now.same_end ∙ stop-comes (here g.now) (configuration_of p' phase' h' d') why move;
-          saves = saved-all start g.now.moves (here g.now) (configuration_of p' phase' h' d') why g.now.reached move
-              g.now.saves;
+          sound = sound-all start g.now.moves (here g.now) (configuration_of p' phase' h' d') why g.now.reached move
+              (λ quiet. sound) g.now.sound;
           asking_is = asking-is;
         }
 
@@ -237,7 +237,7 @@ module _ {K : Type 0} {sending : SendStep K} (start : Configuration) (entry : Ha
         (map whole_send s.past.sent)
         (s.reached, (g.quiet, is)) refl machine left log (h.world.text, refl) (none-sent s.past.sent) s.is_past.taken
         (shown-is s) (none-asked d.asked) (λ other. input (λ waits. other (refl, refl, waits)))
-        (words-left h.word d.words s.past.words s.is_past.word) s.saves
+        (words-left h.word d.words s.past.words s.is_past.word) s.sound
 
     -- the source wasn't asked since then
     pub wants : (g : Ready start entry h d phase) (h' : HeldRun) (asking : Option Asking)
@@ -282,7 +282,7 @@ module _ {K : Type 0} {sending : SendStep K} (start : Configuration) (entry : Ha
         (AwaitedAt start (Some s.moves)) (LongAt start (Some s.moves))) (sym failures)
         (input-left (AwaitedAt start (Some s.moves)) (LongAt start (Some s.moves)) (λ short. s.few)
         (λ short. s.reads) s.is_past.reads s.is_past.left))
-        (words-left h.word d.words s.past.words s.is_past.word) s.saves
+        (words-left h.word d.words s.past.words s.is_past.word) s.sound
 
     pub refused : (g : Ready start entry h d (asks turn w)) (shelf : FlatShelf) (r : Request) (fault : ShelfFault)
         (asking : Option Asking) → request_of turn ≡ Some r
@@ -323,7 +323,7 @@ module _ {K : Type 0} {sending : SendStep K} (start : Configuration) (entry : Ha
         (here (asks turn w) s) (map whole_send s.past.sent)
         (s.reached, (g.quiet, is, asking-is)) refl machine left log (h.world.text, refl)
         (none-sent s.past.sent) s.is_past.taken (shown-is (asks turn w) s) (none-asked d.asked) (λ other. leaves)
-        (words-left h.word d.words s.past.words s.is_past.word) s.saves
+        (words-left h.word d.words s.past.words s.is_past.word) s.sound
 
   -- a word was drawn
   pub redrawn : (word : Option ℕ) (stream : Stream) → Going start entry h d
@@ -348,7 +348,7 @@ module _ {K : Type 0} {sending : SendStep K} (start : Configuration) (entry : Ha
         few = s.few;
         reads = s.reads;
         reached = s.reached;
-        saves = s.saves;
+        sound = s.sound;
         same_end = s.same_end;
       } in
       record { now = now; quiet = g.quiet }
@@ -420,8 +420,8 @@ module _ {K : Type 0} {sending : SendStep K} (start : Configuration) (entry : Ha
             reads = g.reads;
             reached = reached-goes start (here phase g) (configuration_of (with-more g.past) phase h-now d-now)
                 g.moves g.reached move;
-            saves = saved-more start g.moves (here phase g) g.reached
-                (unsaved-send (here phase g) (due-now g true e)) g.saves;
+            sound = sound-more start g.moves (here phase g) g.reached
+                (sends-soundly (here phase g) (due-now g true e)) g.sound;
             same_end = stop-stays (here phase g) (configuration_of (with-more g.past) phase h-now d-now) move
                 ∙ g.same_end;
           } in
@@ -461,9 +461,9 @@ module _ {K : Type 0} {sending : SendStep K} (start : Configuration) (entry : Ha
         → IsHistory start entry p h d → (why ≡ halt.Output) ⊎ (why ≡ halt.NoMemory)
         → LeavesInput start.input (h.ahead ++ h.coming) h.coming entry.source d.source (AwaitedAt start moves)
         (LongAt start moves) 0
-        → IsFront (concat p.sent ++ h.world.text) (final_of start).configuration.world.text → SavedBefore start moves
+        → IsFront (concat p.sent ++ h.world.text) (final_of start).configuration.world.text → MovesSoundly start moves
         → Early start entry h-now asking d-now why
-    cut-sending asking why moves p phase s is past only input shown saves =
+    cut-sending asking why moves p phase s is past only input shown sound =
         let refused : Send = (h.world.text, Err s.0) in
         cut-at start entry d-now h-now asking why moves (by_sink s.0) (configuration_of p phase h d)
         (map whole_send p.sent ++ refused ∷ []) is (ap halt_status s.2 ∙ send-status s.0) refl refl refl
@@ -474,7 +474,7 @@ module _ {K : Type 0} {sending : SendStep K} (start : Configuration) (entry : Ha
         (sink, s.1, refl)) shown (none-asked d.asked)
         (λ other. subst (LeavesInput start.input (h.ahead ++ h.coming) h.coming entry.source d.source
         (AwaitedAt start moves) (LongAt start moves)) (sym (no-failures why only)) input)
-        (words-left h.word d.words p.words past.word) saves
+        (words-left h.word d.words p.words past.word) sound
 
     -- The text that is due between two moves was refused.
     pub cut-send : (phase : Phase) (enough : ℕ)
@@ -487,7 +487,7 @@ module _ {K : Type 0} {sending : SendStep K} (start : Configuration) (entry : Ha
         cut-sending asking why (Some g.moves) g.past phase was.1
         (g.reached, (due-now phase enough due g true was.0, asking-is)) g.is_past only
         (input-left (AwaitedAt start (Some g.moves)) (LongAt start (Some g.moves)) (λ short. g.few)
-        (λ short. g.reads) g.is_past.reads g.is_past.left) (shown-is phase g) g.saves
+        (λ short. g.reads) g.is_past.reads g.is_past.left) (shown-is phase g) g.sound
 
     -- THE TEXT THAT IS DUE AT THE END
     module _ (asking : Option Asking) (why : Stop) (g : HasShown start entry h asking d why) where
@@ -524,7 +524,7 @@ module _ {K : Type 0} {sending : SendStep K} (start : Configuration) (entry : Ha
             reads = g.reads;
             stop_is = ap (λ (x : RunEnd). x.stop) g.is_end;
             is_end = ap told_all stopped-is ∙ told-is true e ∙ sym (still g.past g.phase s.1);
-            saves = g.saves;
+            sound = g.sound;
             asking_is = asks-still;
             none_left = ap (λ (w : FlatWorld). w.text) s.1;
           }
@@ -538,7 +538,7 @@ module _ {K : Type 0} {sending : SendStep K} (start : Configuration) (entry : Ha
             reads = g.reads;
             stop_is = ap (λ (x : RunEnd). x.stop) g.is_end;
             is_end = ap told_all stopped-is ∙ told-is false e;
-            saves = g.saves;
+            sound = g.sound;
             asking_is = asks-still;
             none_left = no-bytes h.world.text (leb-false 1 (length h.world.text) e);
           } in
@@ -562,4 +562,4 @@ module _ {K : Type 0} {sending : SendStep K} (start : Configuration) (entry : Ha
             [],
             ap (λ (x : Configuration). x.world.text) stopped-is
                 ∙ sym (append-nil (concat g.past.sent ++ h.world.text)),
-          ) g.saves
+          ) g.sound

@@ -33,7 +33,7 @@ use Rattle.gx_session.specs.Recording.{BeginsEvent, IsRecord, IsLastRecord, Reco
 use Rattle.gx_session.proofs.Cases.{turn-cases, given-cases, line-cases, asking-cases}
 use Rattle.gx_session.proofs.Finals.{goes-nearer, reached-goes, stop-comes, stop-stays}
 use Rattle.gx_session.proofs.Rooms.{units-more, units-none}
-use Rattle.gx_session.proofs.Saved.{some-is}
+use Rattle.gx_session.proofs.Sound.{some-is}
 use Rattle.gx_session.proofs.Undoing.{next-goes}
 use Rattle.rand_core.specs.Stream.{next_u32}
 

@@ -1,5 +1,5 @@
 -- The last screen of a run.
-use Rattle.std.proofs.Common.{◌≡◌, true, None, Option, refl, ap, subst, sym, ◌∙◌, map}
+use Rattle.std.proofs.Common.{◌≡◌, None, Option, refl, ap, subst, sym, ◌∙◌, map}
 use Rattle.std.specs.List.{concat}
 use Rattle.gx_machine.specs.declared.askings.Asking.{Asking}
 use Rattle.glk_world.specs.World.{FlatWorld, after}
@@ -80,7 +80,7 @@ module _ {K : Type 0} {sending : SendStep K} (start : Configuration) (entry : Ha
           few = g.few;
           reads = g.reads;
           is_end = end-here ∙ ap ended same;
-          saves = g.saves;
+          sound = g.sound;
           asking_is = g.asking_is ∙ asks-same why at-stop m refl refl;
         } in
         subst (λ (x : FlatWorld). HasShown start entry (record h { world = x }) asking d why) (sym said) shown
@@ -115,4 +115,4 @@ module _ {K : Type 0} {sending : SendStep K} (start : Configuration) (entry : Ha
         (map whole_send g.past.sent) ((here, wants), asks-end) refl refl refl refl (h.world.text, refl)
         (none-sent g.past.sent)
         g.is_past.taken shown-by-then (none-asked d.asked) (λ other. input-then)
-        (words-left h.word d.words g.past.words g.is_past.word) g.saves
+        (words-left h.word d.words g.past.words g.is_past.word) g.sound

@@ -92,6 +92,26 @@ effect-by w budget left (Ok p) w' left' does false e done =
     ((w', left'), does) e)
 effect-by w budget left (Err f) w' left' does false e done = cc
 
+-- and no other
+only-by : (w : Whole) (budget left : ℕ) (r : Result (FlatMachine × Effect) Fault) (w' : Whole) (left' : ℕ)
+    (does other : Effect) (b : Bool)
+    → (if b then Ok ((w, budget), effect.Spent) else step-done left r) ≡ Ok ((w', left'), does)
+    → (if b then None else effect_of r) ≡ Some other → other ≡ does
+only-by w budget left r w' left' does other true e at = cc
+only-by w budget left (Ok p) w' left' does other false e at =
+    let same : p.1 ≡ other = cc in
+    sym same ∙ ap (λ (q : (Whole × ℕ) × Effect). q.1)
+    (ok-is {A = (Whole × ℕ) × Effect} ((record { machine = p.0; asking = asking_of p.1 }, left), p.1)
+    ((w', left'), does) e)
+only-by w budget left (Err f) w' left' does other false e at = cc
+
+-- a fault has none
+none-by : (w : Whole) (budget left : ℕ) (r : Result (FlatMachine × Effect) Fault) (f : Fault) (b : Bool)
+    → (if b then Ok ((w, budget), effect.Spent) else step-done left r) ≡ Err f → (if b then None else effect_of r) ≡ None
+none-by w budget left r f true e = refl
+none-by w budget left (Ok p) f false e = cc
+none-by w budget left (Err g) f false e = refl
+
 faults-by : (w : Whole) (budget left : ℕ) (r : Result (FlatMachine × Effect) Fault) (f : Fault) (b : Bool)
     → (if b then Ok ((w, budget), effect.Spent) else step-done left r) ≡ Err f → asked_by r ≡ None
 faults-by w budget left r f true e = cc
@@ -119,7 +139,25 @@ module _ (m : Configuration) (asking : Option Asking) (word : ℕ) (drawn : (nex
       ∙ effect-by (record { machine = m.machine; asking = asking }) m.left (m.left - cost_of m.machine)
       (step_of m.machine word) w left does (nat_lt m.left (cost_of m.machine)) e done
 
-  -- One that meets a fault asks nothing.
+  pub step-only : (w : Whole) (left : ℕ) (does : Effect)
+      → stepped (record { machine = m.machine; asking = asking }) word m.left ≡ Ok ((w, left), does)
+      → (other : Effect) → effect_at m ≡ Some other → other ≡ does
+  unfolding stepped
+  step-only w left does e other at =
+      only-by (record { machine = m.machine; asking = asking }) m.left (m.left - cost_of m.machine)
+      (step_of m.machine word) w left does other (nat_lt m.left (cost_of m.machine)) e
+      (ap (λ (x : ℕ). if nat_lt m.left (cost_of m.machine) then None else effect_of (step_of m.machine x)) (sym drawn)
+      ∙ at)
+
+  -- One that meets a fault has none, and asks nothing.
+  pub step-none : (f : Fault) → stepped (record { machine = m.machine; asking = asking }) word m.left ≡ Err f
+      → effect_at m ≡ None
+  unfolding stepped
+  step-none f e =
+      ap (λ (x : ℕ). if nat_lt m.left (cost_of m.machine) then None else effect_of (step_of m.machine x)) drawn
+      ∙ none-by (record { machine = m.machine; asking = asking }) m.left (m.left - cost_of m.machine)
+      (step_of m.machine word) f (nat_lt m.left (cost_of m.machine)) e
+
   pub step-asks-nothing : (f : Fault) → stepped (record { machine = m.machine; asking = asking }) word m.left ≡ Err f
       → asked m ≡ None
   unfolding stepped asked

@@ -1,5 +1,5 @@
 -- The ways in which a run is cut short: memory ran out, or a device failed.
-use Rattle.std.specs.Prelude.{◌≡◌, ◌≢◌, ℕ, List, [], ◌∷◌, ◌++◌, map, ◌⊎◌, false, true, Option, Some, None, Err}
+use Rattle.std.specs.Prelude.{◌≡◌, ℕ, List, [], ◌∷◌, ◌++◌, map, false, true, Option, Some, None, Err}
 use Rattle.gx_machine.specs.declared.askings.Asking.{Asking}
 use Rattle.gx_outside.specs.Sends.{Send}
 use Rattle.gx_outside.specs.Shelves.{Request, store_file, Trace, AnswerMayWant}

@@ -7,14 +7,13 @@ use Rattle.gx_outside.specs.declared.devices.ShelfFault.{ShelfFault}
 use Rattle.gx_session.specs.declared.ends.Stop.{Stop}
 use Rattle.gx_session.specs.declared.ends.Stop.TheVariants as stop
 use Rattle.gx_session.specs.declared.ends.Halt.{Halt}
-use Rattle.gx_session.specs.declared.ends.Next.TheVariants as next
 use Rattle.gx_session.specs.Constants.{piece}
 use Rattle.gx_session.specs.Cuts.{IsLineStop}
 use Rattle.gx_session.specs.Endings.{stores_of, store_call, told_all}
 use Rattle.gx_session.specs.Configurations.{Configuration, Phase}
 use Rattle.gx_session.specs.Session.{final_of}
 use Rattle.gx_session.specs.Asked.{asked_at}
-use Rattle.gx_session.specs.Runs.{SavedBefore}
+use Rattle.gx_session.specs.Sound.{MovesSoundly}
 use Rattle.gx_session.specs.Holding.{HeldRun, SendStep, Handed, History, configuration_of, IsHistory, IsRead}
 use Rattle.gx_session.specs.Standing.{ComesTo, Early}
 use Rattle.gx_session.specs.Outcomes.{halt_of_shelf}
@@ -35,7 +34,7 @@ pub record Told {K : Type 0} {sending : SendStep K} (start : Configuration) (ent
   pub reads : (IsLineStop why → ⊥) → IsRead start.input entry h d
   pub stop_is : (final_of start).stop ≡ why
   pub is_end : told_all (final_of start).configuration ≡ configuration_of past phase h d
-  pub saves : SavedBefore start None
+  pub sound : MovesSoundly start None
   pub asking_is : asking ≡ asked_at (final_of start).stop (final_of start).configuration
   pub none_left : h.world.text ≡ []
 

@@ -12,6 +12,7 @@ pub mod Runs
 pub mod Reads
 pub mod Cuts
 pub mod Wants
+pub mod Sound
 pub mod Counts
 pub mod Undoing
 pub mod Recording

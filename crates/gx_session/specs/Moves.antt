@@ -63,7 +63,8 @@ after_turn m w (Ok (said, turn.Exit)) = stops stop.Exited (record m { world = af
 after_turn m w (Ok (said, t)) = asking_for m w (after m.world said) t
 after_turn m w (Err fault) = stops (stop.Faulted fault) m
 
--- A call that went on with what it was given has an answer, or a fault. (It has no further turn.)
+-- A call that went on with what it was given has an answer, or a fault. (It has no further turn: see `IsSoundCall` of
+-- Sound.)
 abbrev pub after_given : Configuration → GlkWait → Result (Said × Turn) Fault → Verdict
 after_given m w (Ok (said, turn.Answer reply)) = after_reply m w.left (Ok (said, reply))
 after_given m w (Ok (said, t)) = stops stop.Stuck m
@@ -91,7 +92,8 @@ request_of (turn.Remove name) = Some (remove_file name)
 request_of (turn.Has name) = Some (find_file name)
 request_of t = None
 
--- The shelf is asked this, and the call goes on with what it answers. (No run comes here with nothing to ask.)
+-- The shelf is asked this, and the call goes on with what it answers. (No run comes here with nothing to ask: see
+-- `IsSoundBy` of Sound.)
 abbrev pub shelf_gives : Configuration → GlkWait → Option Request → Verdict
 shelf_gives m w None = stops stop.Stuck m
 shelf_gives m w (Some r) = let answer = m.answers m.asked r in

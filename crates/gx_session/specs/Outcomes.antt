@@ -5,11 +5,6 @@ use Rattle.gx_words.specs.declared.faults.Fault.{Fault}
 use Rattle.gx_words.specs.declared.faults.Fault.TheVariants.{NoMemory}
 use Rattle.gx_state.specs.declared.effects.Reply.{Reply}
 use Rattle.gx_state.specs.Copies.{Copy}
-use Rattle.gx_state.specs.Flat.{FlatState}
-use Rattle.gx_words.specs.Constants.{ceiling}
-use Rattle.gx_machine.specs.SavedCopies.{saved_copy}
-use Rattle.quetzal.specs.ReadingSaves.{copy_in_save}
-use Rattle.quetzal.specs.Writing.{save_bytes}
 use Rattle.gx_machine.specs.declared.askings.Asking.{Asking}
 use Rattle.gx_machine.specs.Machine.{FlatMachine, Whole}
 use Rattle.gx_machine.specs.Answer.{answer_of}
@@ -61,12 +56,12 @@ abbrev pub IsNext : Next → Type 0
 IsNext next.Goes = Unit {0}
 IsNext (next.Stops stop) = IsStop stop
 
--- Where a part of a run goes on, nothing is asked any more, and so many units are left, for which there is room in what
--- is recorded. A stop is one of a session.
+-- Where a part of a run goes on, nothing is asked any more, and so many units are left at most, for which there is room
+-- in what is recorded. A stop is one of a session.
 pub record Leads {E : Type 0} (whole : E → Whole) (log : E → Option Log) (old new : Running E) (left : ℕ)
     (result : Result Next Halt) : Type 0 where
   pub none : result ≡ Ok next.Goes → (whole new.engine).asking ≡ None
-  pub left_is : result ≡ Ok next.Goes → new.left ≡ left
+  pub fewer : result ≡ Ok next.Goes → new.left ≤ left
   pub room : result ≡ Ok next.Goes → new.left ≤ units_left (log new.engine)
   pub no_more : new.left ≤ old.left
   pub stop_is : IfOk result IsNext
@@ -125,10 +120,6 @@ TakesReply whole log old new reply left result =
 abbrev pub MaySave : Type 0 → Result Reply Fault → FlatWorld → FlatWorld → Result (FlatWorld × Reply) Fault → Type 0
 MaySave begun (Ok reply) old new defined = defined ≡ Ok (new, reply)
 MaySave begun (Err e) old new defined = (e ≢ NoMemory → (new ≡ old) × (defined ≡ Err e)) × (e ≡ NoMemory → begun)
-
--- What is saved of a state is read back as it was.
-abbrev pub IsReadBack : FlatState → Type 0
-IsReadBack f = copy_in_save ceiling (save_bytes f.story (saved_copy f)) f.story ≡ Ok (saved_copy f)
 
 -- What it is to a restore that a save is refused: there is no copy, unless memory ran out.
 abbrev pub Refuses : SaveFault → Result (Option Copy) Fault → Type 0

@@ -1,20 +1,15 @@
 -- What a run reports and leaves behind, against the definition of a session.
-use Rattle.std.specs.Prelude.{◌≡◌, ◌≢◌, ℕ, suc, ◌+◌, ◌<◌, ◌≤◌, ◌++◌, ◌⊎◌, true, false, Option, None, Some, Ok, List}
-use Rattle.std.specs.Prelude.{[], map, length, take, ◌==◌, if◌then◌else◌, IsSome, IsTrue}
+use Rattle.std.specs.Prelude.{◌≡◌, ◌≢◌, ℕ, ◌+◌, ◌<◌, ◌≤◌, ◌++◌, ◌⊎◌, true, Option, None, List, []}
+use Rattle.std.specs.Prelude.{map, length, take, ◌==◌, if◌then◌else◌, IsSome}
 use Rattle.std.specs.List.{concat}
-use Rattle.gx_words.specs.Constants.{ceiling}
 use Rattle.gx_machine.specs.Machine.{Whole}
 use Rattle.gx_machine.specs.Log.{Log}
-use Rattle.gx_machine.specs.SavedCopies.{saved_copy}
 use Rattle.gx_outside.specs.Chains.{Chain}
 use Rattle.gx_outside.specs.Outside.{FlatSink}
 use Rattle.gx_outside.specs.Reads.{SourceCall}
 use Rattle.gx_outside.specs.Sends.{SinkCall}
 use Rattle.gx_outside.specs.Shelves.{Request, Answer, Trace, ShelfCall}
 use Rattle.gx_outside.specs.declared.devices.SendFault.TheVariants as of_send
-use Rattle.gx_state.specs.declared.effects.Effect.TheVariants as effect
-use Rattle.quetzal.specs.ReadingSaves.{copy_in_save}
-use Rattle.quetzal.specs.Writing.{save_bytes}
 use Rattle.gx_session.specs.declared.ended.Ended.{Ended}
 use Rattle.gx_session.specs.Constants.{status_ended, status_fault, status_shelf_fault, status_no_memory}
 use Rattle.gx_session.specs.Constants.{status_input_fault}
@@ -26,12 +21,12 @@ use Rattle.gx_session.specs.Cuts.{IsCutShort, IsLineStop}
 use Rattle.gx_session.specs.Wants.{IsWait}
 use Rattle.gx_session.specs.Devices.{Devices}
 use Rattle.gx_session.specs.Endings.{stores_of, store_call, told_all}
-use Rattle.gx_session.specs.Saving.{is_save_begun, SavesReadBack}
+use Rattle.gx_session.specs.Saving.{SavesReadBack}
+use Rattle.gx_session.specs.Sound.{MovesSoundly}
 use Rattle.gx_session.specs.Sending.{whole_send}
-use Rattle.gx_session.specs.Configurations.{Configuration, steps}
-use Rattle.gx_session.specs.Session.{RunEnd, run_of, final_of, StopsByMove}
-use Rattle.gx_session.specs.Moves.{sends_now}
-use Rattle.gx_session.specs.Asked.{effect_at, asked_at}
+use Rattle.gx_session.specs.Configurations.{Configuration}
+use Rattle.gx_session.specs.Session.{RunEnd, final_of, StopsByMove}
+use Rattle.gx_session.specs.Asked.{asked_at}
 use Rattle.gx_session.specs.Session.{stop_status, fault_number, fault_address}
 use Rattle.gx_session.specs.Recording.{RecordsRun}
 use Rattle.gx_session.specs.Undoing.{LastsUndo}
@@ -62,19 +57,6 @@ abbrev pub report_of : {A : Type 0} → Ended A → Whole → Report
 report_of end machine =
     record { status = end.status; fault = end.fault; at = end.at; steps = end.steps; machine = machine; log = None }
 
--- If a save is begun from here, what it saves of the state is read back as it was.
-abbrev pub IsSaved : Configuration → Type 0
-IsSaved m =
-    let f = m.machine.flat in
-    m.phase ≡ steps → sends_now m ≡ false → (stream : ℕ) → effect_at m ≡ Some (effect.Save stream)
-    → IsTrue (is_save_begun m.world.scene f stream)
-    → copy_in_save ceiling (save_bytes f.story (saved_copy f)) f.story ≡ Ok (saved_copy f)
-
--- So it is of all saves within so many moves, or else of all after which the run goes on.
-abbrev pub SavedBefore : Configuration → Option ℕ → Type 0
-SavedBefore start (Some moves) = (i : ℕ) → i < moves → (m : Configuration) → run_of start i ≡ Some m → IsSaved m
-SavedBefore start None = (i : ℕ) (m : Configuration) → run_of start i ≡ Some m → run_of start (suc i) ≢ None → IsSaved m
-
 -- The run came to its end: all text was sent, with the last screen, and all open files were stored. One more random
 -- word may be drawn, which wasn't used.
 pub record EndsAt (start : Configuration) (e : RunEnd) (entry exit : Devices) (coming : List ℕ)
@@ -91,7 +73,7 @@ pub record EndsAt (start : Configuration) (e : RunEnd) (entry exit : Devices) (c
   pub input_is : LeavesInput start.input e.configuration.input coming entry.source exit.source (IsLineStop e.stop)
       (e.stop ≡ stop.LineTooLong) 0
   pub words_are : (exit.words ≡ e.configuration.words) ⊎ (exit.words ≡ (next_u32 e.configuration.words).1)
-  pub saves_are : SavedBefore start None
+  pub moves_are_sound : MovesSoundly start None
 
 -- The run was cut short, after so many moves or in its ending, at a configuration whose text is a front of the end's; a
 -- front of that was sent. The calls of the sink and of the shelf are those of the session up to there, and one that was
@@ -114,7 +96,7 @@ pub record StopsEarly (start : Configuration) (entry exit : Devices) (coming : L
       ((moves ≡ None) × IsLineStop (final_of start).stop) ((moves ≡ None) × ((final_of start).stop ≡ stop.LineTooLong))
       (if r.status == status_input_fault then 1 else 0)
   pub words_are : (exit.words ≡ configuration.words) ⊎ (exit.words ≡ (next_u32 configuration.words).1)
-  pub saves_are : SavedBefore start moves
+  pub moves_are_sound : MovesSoundly start moves
 
 -- What a sink that tells has taken then: all that was sent before, and a front of a send that was refused. Where memory
 -- was wanted at a send, it was by the last call of the sink.

@@ -11,6 +11,7 @@ use Rattle.gx_machine.specs.Machine.{FlatMachine}
 use Rattle.gx_machine.specs.Answer.{answer_of}
 use Rattle.gx_machine.specs.SavedCopies.{restored}
 use Rattle.gx_machine.specs.Step.{asking_of}
+use Rattle.gx_machine.specs.WaysBack.{HasWaysBack}
 use Rattle.gx_machine.specs.Log.{Log, logged}
 use Rattle.gx_machine.specs.Advancing.{logged_by}
 use Rattle.gx_outside.specs.Chains.{Chain}
@@ -36,7 +37,8 @@ use Rattle.gx_session.specs.Moves.{after_given, sends_now}
 use Rattle.gx_session.specs.Session.{RunEnd, stop_of, run_of}
 use Rattle.gx_session.specs.Asked.{effect_at, asked, asked_at}
 use Rattle.gx_session.specs.Reading.{ReadsFew}
-use Rattle.gx_session.specs.Runs.{IsSaved, SavedBefore, StopsEarly}
+use Rattle.gx_session.specs.Runs.{StopsEarly}
+use Rattle.gx_session.specs.Sound.{IsSoundStep, IsSoundCall, IsSoundBy, MovesSoundly}
 use Rattle.gx_session.specs.Holding.{HeldRun, SendStep, Handed, devices_of, History, configuration_of, IsHistory}
 use Rattle.gx_session.specs.Holding.{IsRead}
 
@@ -53,7 +55,7 @@ pub record Standing {K : Type 0} {sending : SendStep K} (start : Configuration) 
   pub few : length h.ahead < piece
   pub reads : IsRead start.input entry h d
   pub reached : run_of start moves ≡ Some (configuration_of past phase h d)
-  pub saves : SavedBefore start (Some moves)
+  pub sound : MovesSoundly start (Some moves)
   pub same_end : stop_of (configuration_of past phase h d) ≡ stop_of start
 
 -- So it stands, and no text is due.
@@ -101,7 +103,7 @@ pub record ComesTo {K : Type 0} {sending : SendStep K} (end : RunEnd) (start : C
   pub few : why ≢ stop.LineTooLong → length h.ahead < piece
   pub reads : (IsLineStop why → ⊥) → IsRead start.input entry h d
   pub is_end : end ≡ record { stop = why; configuration = configuration_of past phase h d }
-  pub saves : SavedBefore start None
+  pub sound : MovesSoundly start None
   pub asking_is : asking ≡ asked_at why (configuration_of past phase h d)
 
 -- A stop has come.
@@ -146,6 +148,9 @@ pub record Follows {K : Type 0} {sending : SendStep K} (start : Configuration) (
       IsSome (asking_of does) → asked m ≡ asking_of does
   pub effect : let m = configuration_of going.now.past steps (record h { machine = before; log = recorded }) d in
       does ≢ Spent → effect_at m ≡ Some does
+  pub only : let m = configuration_of going.now.past steps (record h { machine = before; log = recorded }) d in
+      (other : Effect) → effect_at m ≡ Some other → other ≡ does
+  pub backs : HasWaysBack before
   pub stands : IsSome (asking_of does) → h.machine ≡ before
   pub logs : h.log ≡ logged_by does recorded before
 
@@ -167,7 +172,7 @@ pub record Resumes {K : Type 0} {sending : SendStep K} (start : Configuration) (
         log = logged m.log m.machine;
         phase = steps;
       })
-  pub saved : IsSaved (configuration_of going.now.past phase (record h { world = world }) d)
+  pub sound : IsSoundBy phase (configuration_of going.now.past phase (record h { world = world }) d)
   pub asks : let m = configuration_of going.now.past phase (record h { world = world }) d in asking ≡ asked m
   pub memory : let m = configuration_of going.now.past phase (record h { world = world }) d in
       wants → WantsMemory phase m asking
@@ -177,6 +182,12 @@ abbrev pub ResumesWithReply : {K : Type 0} {sending : SendStep K} → Configurat
     → Option Asking → Handed sending → ℕ → Reply → Type 0
 ResumesWithReply start entry h asking d left reply =
     Resumes start entry h asking d left (answer_of h.machine reply) (ReplyWants h.log h.machine reply)
+
+-- So it does with a reply to a character that was put to text, for which memory may be wanted.
+abbrev pub ResumesFreely : {K : Type 0} {sending : SendStep K} → Configuration → Handed sending → HeldRun
+    → Option Asking → Handed sending → ℕ → Reply → Type 0
+ResumesFreely start entry h asking d left reply =
+    Resumes start entry h asking d left (answer_of h.machine reply) (Unit {0})
 
 -- It goes back to a copy.
 abbrev pub GoesBack : {K : Type 0} {sending : SendStep K} → Configuration → Handed sending → HeldRun → Option Asking
@@ -192,7 +203,7 @@ pub record TakesTurn {K : Type 0} {sending : SendStep K} (start : Configuration)
   pub going : Going start entry (record h { world = world }) d
   pub event : let m = configuration_of going.now.past steps (record h { world = world }) d in
       act_of m ≡ after_turn m w (Ok (said, turn))
-  pub saved : IsSaved (configuration_of going.now.past steps (record h { world = world }) d)
+  pub sound : IsSoundStep (configuration_of going.now.past steps (record h { world = world }) d)
   pub asks : let m = configuration_of going.now.past steps (record h { world = world }) d in asking ≡ asked m
   pub memory : let m = configuration_of going.now.past steps (record h { world = world }) d in
       TurnWants h.log h.machine (said, turn) → WantsMemory steps m asking
@@ -207,6 +218,7 @@ pub record GoesOn {K : Type 0} {sending : SendStep K} (start : Configuration) (e
   pub going : Ready start entry (record h { world = world }) d (goes_on given w)
   pub event : let m = configuration_of going.now.past (goes_on given w) (record h { world = world }) d in
       act_of m ≡ after_given m w (Ok (said, turn))
+  pub sound : IsSoundCall (configuration_of going.now.past (goes_on given w) (record h { world = world }) d) given w
   pub asks : let m = configuration_of going.now.past (goes_on given w) (record h { world = world }) d in
       asking ≡ asked m
   pub memory : let m = configuration_of going.now.past (goes_on given w) (record h { world = world }) d in

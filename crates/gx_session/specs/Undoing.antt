@@ -55,7 +55,8 @@ AreTaken start cs js = ⊥
 -- which are alive there. So a restoreundo goes back to the whole copy of the newest saveundo that was neither
 -- used, nor discarded, nor dropped as the oldest; it finds none exactly where there is none, and hasundo answers 1
 -- exactly there. A discardundo takes exactly that newest copy away. A restore leaves these copies, so that a
--- restoreundo after it goes back to a saveundo before it.
+-- restoreundo after it goes back to a saveundo before it. That the way back has no fault is said of the moves that a
+-- run makes (`IsSoundStep` of Sound).
 unfoldable pub LastsUndo : Configuration → Type 0
 LastsUndo start = start.machine.undo.copies ≡ [] → (j : ℕ) (m : Configuration) → run_of start j ≡ Some m
     → AreTaken start m.machine.undo.copies (alive start j)

@@ -1,8 +1,9 @@
 //! Saves and restores of a machine, which Glk streams take and give back (Glulx 3.1.2, "Game State").
 //!
 //! One that fails is answered, and is no fault. A save to a stream in memory whose places can't be written is one.
-ghost use Rattle.std.specs.Prelude.{◌≡◌, ◌≤◌, ◌==◌, ◌&&◌, ℕ, List, Some, IfOk, IfErr, IfSome, IsTrue};
+ghost use Rattle.std.specs.Prelude.{◌≡◌, ◌≢◌, ◌≤◌, ◌==◌, ◌&&◌, ℕ, List, Some, Err, IfOk, IfErr, IfSome, IsTrue};
 ghost use Rattle.gx_words.specs.Faults.{MayLose};
+ghost use Rattle.gx_words.specs.declared.faults.Fault.TheVariants.{NoMemory};
 ghost use Rattle.gx_state.specs.Copies.{IsCopyFor};
 ghost use Rattle.gx_state.specs.Replies.{IsReply};
 ghost use Rattle.gx_state.specs.declared.effects.Effect.TheVariants as effect;
@@ -10,6 +11,7 @@ ghost use Rattle.gx_machine.specs.declared.askings.Asking.TheVariants as asking;
 ghost use Rattle.gx_machine.specs.Advancing.{left_after};
 ghost use Rattle.gx_machine.specs.SavedCopies.{restored};
 ghost use Rattle.gx_machine.specs.Step.{asking_of};
+ghost use Rattle.gx_machine.specs.WaysBack.{HasWayBack};
 ghost use Rattle.glk_streams.specs.Stream as one;
 ghost use Rattle.glk_streams.specs.Streams as all;
 ghost use Rattle.glk_world.specs.World.{on_world};
@@ -18,11 +20,12 @@ ghost use Rattle.gx_session.specs.Constants.{failed as failed_value};
 ghost use Rattle.gx_session.specs.Devices.{Devices};
 ghost use Rattle.gx_session.specs.Holding.{held_by, Handed, asking_in};
 ghost use Rattle.gx_session.specs.Standing.{Follows, GoesBack};
-ghost use Rattle.gx_session.specs.Outcomes.{Becomes, IsReadBack, MaySave, Refuses};
+ghost use Rattle.gx_session.specs.Outcomes.{Becomes, MaySave, Refuses};
 ghost use Rattle.gx_session.specs.Outcomes.{EventGives};
 ghost use Rattle.gx_session.specs.Outcomes.{Leads, Keeps};
 ghost use Rattle.gx_session.specs.Saving.{is_save_begun, is_restore_begun, saving, restoring};
 ghost use Rattle.gx_session.specs.Saving.{SavesReadBack};
+ghost use Rattle.gx_session.specs.Sound.{IsReadBack};
 ghost use Rattle.gx_session.specs.Configurations.{Configuration};
 
 use crate::ends::{Halt, Next};
@@ -72,9 +75,9 @@ fn save<A: Allocator + Clone, E: Engine<A>>(
     ensures value { MaySave (IsTrue (is_save_begun world.old.scene (E.whole engine.now).machine.flat stream)) result
         world.old world.new (on_world world.old (saving world.old.scene (E.whole engine.now).machine.flat stream)) }
     ensures fits { IfOk result (IsReply (E.whole engine.now).machine.flat 0) }
-    ensures read_back { IfOk result (λ _.
-        IsTrue (is_save_begun world.old.scene (E.whole engine.now).machine.flat stream)
-        → IsReadBack (E.whole engine.now).machine.flat) }
+    ensures read_back { result ≢ Err NoMemory
+        → IsTrue (is_save_begun world.old.scene (E.whole engine.now).machine.flat stream)
+        → IsReadBack (E.whole engine.now).machine.flat }
 {
     if !is_begun(world, engine.state(), stream) {
         return Ok(failed(world));
@@ -134,6 +137,7 @@ fn read<A: Allocator + Clone, E: Engine<A>>(
         (λ copy. copy) result world.old world.new
         (on_world world.old (restoring world.old.scene (E.whole engine.now).machine.flat stream)) }
     ensures fits { IfOk result (λ read. IfSome read (IsCopyFor (E.whole engine.now).machine.flat.story)) }
+    ensures back { IfOk result (λ read. IfSome read (HasWayBack (E.whole engine.now).machine.flat)) }
 {
     if engine.state().iosys().0 != GLK_SYSTEM {
         return Ok(None);
@@ -142,7 +146,10 @@ fn read<A: Allocator + Clone, E: Engine<A>>(
         return Ok(None);
     };
     match quetzal::read_save(world.alloc(), bytes.as_slice(), engine.story()) {
-        Ok(copy) => Ok(Some(copy)),
+        Ok(copy) => {
+            let _stack = engine.state().stack(); // a state is sound
+            Ok(Some(copy))
+        }
         Err(fault) => refused(fault),
     }
 }

@@ -25,7 +25,7 @@ ghost use Rattle.gx_session.specs.Outcomes.{Leads, Keeps, without_line};
 use crate::ends::{Halt, Next, Stop};
 use crate::lines::NoLine;
 use crate::questions::Question;
-use crate::running::{GlkWait, Running, answer, answer_put, faulted, flush};
+use crate::running::{GlkWait, Running, answer, answer_puts, faulted, flush};
 use arrayvec::ArrayVec;
 use glk_dispatch::{Given, Turn};
 use gx_machine::Engine;
@@ -54,7 +54,7 @@ pub fn ask_put<A: Allocator + Clone, E: Engine<A>, K: Sink>(
     ensures lines { run.new.lines ≡ run.old.lines }
 {
     match glk_dispatch::put_text(&mut run.world, c) {
-        Ok(true) => answer_put(run, output, left),
+        Ok(true) => answer_puts(run, output, left),
         Ok(false) => ask_any_put(run, output, c, left),
         Err(AllocError) => Err(Halt::NoMemory),
     }

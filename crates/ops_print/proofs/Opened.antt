@@ -4,14 +4,10 @@ use Rattle.ops_print.specs.Asks.{mode_after}
 use Rattle.ops_print.specs.Items.{item, item_printed, character_printed}
 use Rattle.ops_print.specs.Stubs.{inner_ended}
 
--- a character of a string or number that is dropped, and one that is put
+-- a character of a string or number that is dropped
 unfoldable pub dropping : Unit {0}
 unfolding item item_printed character_printed
 dropping = tt
-
-unfoldable pub putting : Unit {0}
-unfolding dropping mode_after
-putting = tt
 
 -- one step of printing, and the mode behind it
 unfoldable pub stepping : Unit {0}

@@ -106,5 +106,3 @@ quiet_end f p mode is = printed-is f p mode
     (either (is_printing_place p.kind p.bit)
     (subst (λ (r : Result Item Fault). Quiet (r >>= item_printed f p.started)) (sym is) (ended f p.started))
     (record { is = tt }))
-
-pub ruleset quiet = (quiet_item, quiet_system, quiet_place, quiet_end)

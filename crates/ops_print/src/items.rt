@@ -1,5 +1,6 @@
 //! One step of printing: the next item of a string or number, by the I/O system.
-ghost use Rattle.std.specs.Prelude.{◌≡◌, ◌<◌, take, length, None, Ok, true, false, IfOk, IfSome};
+ghost use Rattle.std.specs.Prelude.{◌≡◌, ◌<◌, ◌≤◌, ◌+◌, ◌++◌, take, length, None, Ok, true, false, IfOk, IfSome};
+ghost use Rattle.std.specs.Option.{option_map};
 ghost use Rattle.gx_words.specs.Faults.{TakesNone};
 ghost use Rattle.gx_words.specs.Results.{Turns};
 ghost use Rattle.gx_strings.specs.Items.{next_item};
@@ -10,13 +11,19 @@ ghost use Rattle.gx_state.specs.Flat.{sp_of};
 ghost use Rattle.gx_state.specs.Relations.{Goes};
 ghost use Rattle.ops_print.specs.Asks.{IsPutAtMost, printed, mode_after, is_put};
 ghost use Rattle.ops_print.specs.Items.{function_called, character_printed, item_printed, is_printing_place};
+ghost use Rattle.ops_print.specs.Puts.{most_puts, char_at, PutsNext};
 
 use crate::arguments::arguments_in;
 use crate::stubs::{end_inner, resuming, to_code};
+use arrayvec::ArrayVec;
+use gx_pages::Pages;
 use gx_state::{Effect, Mode, State};
 use gx_strings::{CharOrEnd, Item, next_char, next_item};
 use gx_words::{FILTER_SYSTEM, Fault, GLK_SYSTEM, PrintKind, Printing};
 use std::alloc::Allocator;
+
+/// The most characters that are looked ahead for at once.
+pub const MOST_PUTS: usize = 64;
 
 /// Calls a function in the midst of printing.
 #[tactic(auto, unfolding(crate::specs::Items::function_called))]
@@ -142,10 +149,33 @@ fn rom<A: Allocator + Clone>(state: &State<A>) -> &[u8]
     &state.story().bytes()[..state.ramstart() as usize]
 }
 
+/// The character at a place of a string or number, with the address and the bit behind it; None where something else
+/// is there. `rom` is the first bytes of memory.
+#[inline(always)]
+#[tactic(auto, using(crate::proofs::Runs::no_char))]
+fn char_at<A: Allocator + Clone>(
+    rom: &[u8],
+    memory: &Pages<A>,
+    table: u32,
+    printing: &Printing,
+) -> Option<(u32, u32, u32)>
+    requires { rom.now ≡ take (length rom.now) memory.now }
+    ensures { char_at memory.now table printing.now
+        ≡ option_map (λ r. (r.0, record printing.now { at = r.1; bit = r.2 })) result }
+{
+    if !is_printing_place(printing) {
+        return None;
+    }
+    match next_char(rom, memory, table, printing) {
+        CharOrEnd::Char { value, at, bit } => Some((value, at, bit)),
+        CharOrEnd::End | CharOrEnd::Neither => None,
+    }
+}
+
 /// The character that the next step of a machine that prints asks to be put, with the address and the bit behind it;
 /// None where it does something else.
 #[inline(always)]
-#[tactic(auto, using(crate::proofs::Puts::quiet), unfolding(crate::proofs::Opened::putting))]
+#[tactic(auto, using(crate::proofs::Runs::steps))]
 pub fn next_put<A: Allocator + Clone>(
     state: &State<A>,
     printing: &Printing,
@@ -157,13 +187,44 @@ pub fn next_put<A: Allocator + Clone>(
     ensures none { result ≡ None → IfOk (printed state.now.flat) (λ r. is_put r.1 ≡ false) }
 {
     let (system, _) = state.iosys();
-    if system != GLK_SYSTEM || !is_printing_place(printing) {
+    if system != GLK_SYSTEM {
         return None;
     }
-    match next_char(rom(state), state.memory(), state.table(), printing) {
-        CharOrEnd::Char { value, at, bit } => Some((value, at, bit)),
-        CharOrEnd::End | CharOrEnd::Neither => None,
+    char_at(rom(state), state.memory(), state.table(), printing)
+}
+
+/// The characters that a machine asks to be put next, `most` at most, where it prints from this place on and nothing
+/// else is done between them. They are added to `chars`, and the place behind them is answered.
+///
+/// All of them are of one string or number: they stop before its end, a reference and a fault.
+#[tactic(auto, using(crate::proofs::Runs::steps))]
+pub fn more_puts<A: Allocator + Clone>(
+    state: &State<A>,
+    printing: &Printing,
+    most: usize,
+    chars: &mut ArrayVec<u32, MOST_PUTS>,
+) -> Printing
+    requires { length chars.old.items + most ≤ most_puts }
+    ensures { PutsNext (record state.now.flat { mode = APrinting printing.now }) most chars.old.items chars.new.items
+        (APrinting result) }
+{
+    let mut next = *printing;
+    let (system, _) = state.iosys();
+    if system != GLK_SYSTEM {
+        return next;
     }
+    let rom = rom(state);
+    let memory = state.memory();
+    let table = state.table();
+    for taken in 0..most {
+        let Some((value, at, bit)) = char_at(rom, memory, table, &next) else {
+            return next;
+        };
+        chars.push(value);
+        next.at = at;
+        next.bit = bit;
+    }
+    next
 }
 
 /// Makes the next step of a machine that prints where it is a character that isn't put to Glk, or the end. Nothing is

@@ -4,7 +4,8 @@
 //! `act` does the row of a plan, by its definition of specs/PrintRows. `item` makes one step of printing,
 //! by specs/Items: one character, one reference or the end. Both go by the I/O system: the null system
 //! drops each character, the filter is called with it, and under Glk it is asked to be put. After
-//! every fault the state is as before, and nothing here takes memory.
+//! every fault the state is as before, and nothing here takes memory. `next_put` and `more_puts` look
+//! ahead for the characters that are asked to be put, by specs/Puts.
 //! - `rows` has the rows.
 //! - `items` has the steps of printing.
 //! - `stubs` has the call stubs of strings and numbers, and `arguments` those of a reference.
@@ -26,7 +27,7 @@ use gx_operands::Plan;
 use gx_rows::by_row;
 use gx_state::{Effect, State};
 use gx_words::Fault;
-pub use items::{item, item_and_mode, next_put, pass_item};
+pub use items::{MOST_PUTS, item, item_and_mode, more_puts, next_put, pass_item};
 use rows::{streamchar, streamnum, streamstr, streamunichar};
 use std::alloc::Allocator;
 

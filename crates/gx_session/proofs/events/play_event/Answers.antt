@@ -37,7 +37,7 @@ returns-in-Some-clause-plays g c =
     (step-follows start entry drawn now old.asking c.draw.result c.draw.ensures.in_hand going new
     (c.args.run.now.left - 1) (Put c.in-Some.c) (c.in-Some.ensures.value c.draw.result)
     (λ some. c.next_put.ensures.stands)
-    (g.E.Engine.log c.next_put.new.self) c.next_put.ensures.logs))))
+    (g.E.Engine.log c.next_put.new.self) c.next_put.ensures.logs c.next_put.ensures.backs))))
 
 pub ask_put-requires-clause-room : goal.ask_put-requires-clause-room
 ask_put-requires-clause-room g c =

@@ -33,7 +33,7 @@ returns-in-Ok-clause-nearer g c goes =
     let a = c.in-Ok.ensures in
     let nearer = (step-answers _ _ _ _ _ _ (passed-asks _ a.count _ _ _ _ _ _ c.requires.none a.passes)
     (advanced _ _ _ _ _ _ _ _ _ a)).nearer (c.follow.ensures.goes goes) in
-    omega (arith, c.follow.ensures.leads.left_is goes, nearer, passed-lower _ a.count _ _ _ _ _ _ a.passes)
+    omega (arith, c.follow.ensures.leads.fewer goes, nearer, passed-lower _ a.count _ _ _ _ _ _ a.passes)
 
 pub returns-in-Err-clause-no_more : goal.returns-in-Err-clause-no_more
 returns-in-Err-clause-no_more g c = passed-lower _ c.in-Err.ensures.count _ _ _ _ _ _ c.in-Err.ensures.passes
@@ -87,7 +87,8 @@ returns-in-Err-clause-plays g c =
     (g.E.Engine.log c.advance.new.self) machine a.logs none nothing (refused-wants _ _ _ _ _ _ _ _ _ a wants))
     (λ other. step-stops start entry mid now a.before.asking c.draw-word.result c.draw-word.ensures.in_hand reached
     (g.E.Engine.whole c.advance.new.self).machine (g.E.Engine.log c.advance.new.self) c.in-Err.fault
-    (g.E.Engine.whole c.advance.new.self).asking machine a.logs nothing (refused-is _ _ _ _ _ _ _ _ _ a other)))))
+    (g.E.Engine.whole c.advance.new.self).asking machine a.logs nothing (refused-is _ _ _ _ _ _ _ _ _ a other)
+    a.backs))))
 
 pub returns-in-Ok-clause-plays : goal.returns-in-Ok-clause-plays
 returns-in-Ok-clause-plays g c =
@@ -111,7 +112,7 @@ returns-in-Ok-clause-plays g c =
     plays start entry now told
     (step-follows start entry mid now a.before.asking c.draw-word.result c.draw-word.ensures.in_hand reached
     (g.E.Engine.whole c.advance.new.self) c.advance.new.left c.in-Ok.effect (advanced _ _ _ _ _ _ _ _ _ a) a.stands
-    (g.E.Engine.log c.advance.new.self) a.logs)))
+    (g.E.Engine.log c.advance.new.self) a.logs a.backs)))
 
 pub returns-in-Ok-clause-keeps : goal.returns-in-Ok-clause-keeps
 returns-in-Ok-clause-keeps g c =

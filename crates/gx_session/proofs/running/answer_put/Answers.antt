@@ -2,7 +2,6 @@ use Rattle.std.proofs.Common.{ap, is_some}
 use Rattle.gx_machine.specs.Answer.{answer_of}
 use Rattle.gx_machine.specs.Machine.{Whole}
 use Rattle.glk_replies.specs.Parts.{replies}
-use Rattle.gx_session.specs.Wants.{ReplyWants}
 use Rattle.gx_session.proofs.Answering.{given-standing, given-leads}
 use Rattle.gx_session.proofs.running.answer_put.Goals as goal
 
@@ -12,8 +11,7 @@ returns-clause-plays g c coming start entry d r =
     (given-standing g.E.Engine.whole g.E.Engine.log c.args.run.now c.give_put.new.run coming
     (answer_of (g.E.Engine.whole c.args.run.now.engine).machine (replies 0)) c.args.left start entry
     (record d { sink = c.args.output.now })
-    (ReplyWants (g.E.Engine.log c.args.run.now.engine) (g.E.Engine.whole c.args.run.now.engine).machine
-    (replies 0)) r
+    (Unit {0}) r
     (record { ok = (c.give_put.ensures.engine, c.give_put.ensures.same, c.give_put.ensures.logs); err = tt }))
 
 pub send_due-requires : goal.send_due-requires

@@ -12,7 +12,8 @@ use Rattle.gx_session.specs.Standing.{ResumesWithReply}
 use Rattle.gx_session.specs.Saving.{restoring}
 use Rattle.gx_session.specs.Configurations.{steps}
 use Rattle.gx_session.proofs.Asking.{asks-now, restoring-does, restore-reads, restore-takes, asking-early}
-use Rattle.gx_session.proofs.Asking.{asking-resumes, fault-stops, fault-gives, world-ok, world-err}
+use Rattle.gx_session.proofs.Asking.{asking-here, asking-sound, asking-resumes, fault-stops, fault-gives, world-ok, world-err}
+use Rattle.gx_session.proofs.Sound.{reads-so}
 use Rattle.gx_session.proofs.saves.ask_restore.Goals as goal
 
 pub returns-in-Err-clause-plays : goal.returns-in-Err-clause-plays
@@ -31,7 +32,10 @@ returns-in-Err-clause-plays g c coming start entry d f =
     (λ other. fault-stops start entry h now steps a.going c.in-Err.fault c.read.new.world asking (value.0 other)
     (c.requires.asks ∙ sym a.asking_is)
     (restoring-does start entry h now c.args.left (Restore c.args.stream) a c.args.stream (Err c.in-Err.fault) refl
-    (world-err {X = Option Copy} h.world told c.in-Err.fault (value.1.0 other)))))
+    (world-err {X = Option Copy} h.world told c.in-Err.fault (value.1.0 other)))
+    (asking-sound start entry h now c.args.left (Restore c.args.stream) a
+    (reads-so (asking-here start entry h now c.args.left (Restore c.args.stream) a) c.args.stream (Err c.in-Err.fault)
+    (world-err {X = Option Copy} h.world told c.in-Err.fault (value.1.0 other)) tt) (λ begins. absurd begins))))
 
 pub returns-in-Ok-None-clause-plays : goal.returns-in-Ok-None-clause-plays
 returns-in-Ok-None-clause-plays g c coming start entry d f =
@@ -47,7 +51,8 @@ returns-in-Ok-None-clause-plays g c coming start entry d f =
     (asking_in g.E.Engine.whole c.args.run.now) c.read.new.world w.0 (answer_of h.machine (replies failed))
     (ReplyWants h.log h.machine (replies failed)) c.requires.asks w.2
     (restoring-does start entry h now c.args.left (Restore c.args.stream) a c.args.stream (Ok (w.0, None)) refl w.1)
-    (λ begins. absurd begins)
+    (reads-so (asking-here start entry h now c.args.left (Restore c.args.stream) a) c.args.stream (Ok (w.0, None)) w.1
+    tt) (λ begins. absurd begins)
     (restore-takes start entry h now c.args.left (Restore c.args.stream) a c.args.stream w.0 None refl w.1)))
 
 pub returns-in-Ok-Some-clause-plays : goal.returns-in-Ok-Some-clause-plays
@@ -62,6 +67,9 @@ returns-in-Ok-Some-clause-plays g c coming start entry d f =
     (asking_in g.E.Engine.whole c.args.run.now) c.read.new.world w.0 (restored h.machine c.in-Ok-Some.copy)
     (Unit {0}) c.requires.asks w.2
     (restoring-does start entry h now c.args.left (Restore c.args.stream) a c.args.stream
-    (Ok (w.0, Some c.in-Ok-Some.copy)) refl w.1) (λ begins. absurd begins)
+    (Ok (w.0, Some c.in-Ok-Some.copy)) refl w.1)
+    (reads-so (asking-here start entry h now c.args.left (Restore c.args.stream) a) c.args.stream
+    (Ok (w.0, Some c.in-Ok-Some.copy)) w.1 (rw c.in-Ok-Some.field-0-is at c.in-Ok-Some.ensures.back))
+    (λ begins. absurd begins)
     (restore-takes start entry h now c.args.left (Restore c.args.stream) a c.args.stream w.0
     (Some c.in-Ok-Some.copy) refl w.1))

@@ -6,6 +6,7 @@ use Rattle.gx_session.specs.Holding.{Handed, HeldRun, held_by, asking_in}
 use Rattle.gx_session.specs.Saving.{saving}
 use Rattle.gx_session.specs.Configurations.{steps}
 use Rattle.gx_session.proofs.Asking.{asks-now, saving-does, save-begun, save-takes, asking-early, asking-resumes}
+use Rattle.gx_session.proofs.Asking.{asking-sound}
 use Rattle.gx_session.proofs.Asking.{fault-stops, fault-gives, world-ok, world-err}
 use Rattle.gx_session.proofs.saves.ask_save.Goals as goal
 
@@ -23,7 +24,9 @@ returns-in-Err-clause-plays g c coming start entry d f =
     (λ other. fault-stops start entry h now steps a.going c.in-Err.fault c.save.new.world asking (value.0 other).0
     (c.requires.asks ∙ sym a.asking_is)
     (saving-does start entry h now c.args.left (Save c.args.stream) a c.args.stream (Err c.in-Err.fault) refl
-    (world-err h.world (saving h.world.scene h.machine.flat c.args.stream) c.in-Err.fault (value.0 other).1))))
+    (world-err h.world (saving h.world.scene h.machine.flat c.args.stream) c.in-Err.fault (value.0 other).1))
+    (asking-sound start entry h now c.args.left (Save c.args.stream) a tt
+    (c.in-Err.ensures.read_back (λ e. other cc)))))
 
 pub returns-in-Ok-clause-plays : goal.returns-in-Ok-clause-plays
 returns-in-Ok-clause-plays g c coming start entry d f =
@@ -37,5 +40,5 @@ returns-in-Ok-clause-plays g c coming start entry d f =
     c.save.new.world w.0 (answer_of h.machine c.in-Ok.reply)
     (ReplyWants h.log h.machine c.in-Ok.reply) c.requires.asks w.2
     (saving-does start entry h now c.args.left (Save c.args.stream) a c.args.stream
-    (Ok (w.0, c.in-Ok.reply)) refl w.1) c.in-Ok.ensures.read_back
+    (Ok (w.0, c.in-Ok.reply)) refl w.1) tt (c.in-Ok.ensures.read_back (λ e. cc))
     (save-takes start entry h now c.args.left (Save c.args.stream) a c.args.stream w.0 c.in-Ok.reply refl w.1))

@@ -1,10 +1,13 @@
-use Rattle.std.proofs.Common.{◌≡◌, ℕ, List, None, refl, ap, sym, ◌∙◌}
+use Rattle.std.proofs.Common.{◌≡◌, ℕ, List, None, refl, ap, subst, sym, ◌∙◌}
 use Rattle.std.proofs.lemmas.Bool.{eq-eqb, ne_eqb}
 use Rattle.std.proofs.lemmas.Result.{err_from_is_err_and}
 use Rattle.gx_words.specs.Constants.{ceiling, glk_system}
 use Rattle.gx_story.specs.Stories.{FlatStory}
 use Rattle.gx_state.specs.Flat.{FlatState}
 use Rattle.quetzal.specs.ReadingSaves.{copy_in_save}
+use Rattle.gx_state.specs.Copies.{IsCopyFor}
+use Rattle.gx_state.specs.Sound.{IsSound}
+use Rattle.gx_machine.proofs.WaysBack.{way_back}
 use Rattle.gx_session.proofs.Saving.{restoring-fails, read-refused, read-is, read-found, unread}
 use Rattle.gx_session.proofs.saves.read.Goals as goal
 
@@ -60,3 +63,9 @@ returns-clause-value g c =
     (eq-eqb f.iosys.0 glk_system (sym system ∙ c.if-iosys-ne-GLK_SYSTEM.false))
     c.in-Some.bytes (rw c.in-Some.is at c.in_ok-bytes.ensures) c.in-Err.fault c.refused.result
     (λ other. same ∙ c.in-Err.ensures.value.0 other) c.refused.ensures
+
+pub returns-in-Ok-clause-back : goal.returns-in-Ok-clause-back
+returns-in-Ok-clause-back g c =
+    let f = (g.E.Engine.whole c.args.engine.now).machine.flat in
+    way_back f c.in-Ok.copy (subst IsSound c.state-in-Ok.ensures c.stack-stack.ensures.sound)
+    (subst (λ (s : FlatStory). IsCopyFor s c.in-Ok.copy) c.story.ensures c.in-Ok.ensures.sound)

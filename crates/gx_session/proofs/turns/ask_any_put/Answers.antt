@@ -6,6 +6,7 @@ use Rattle.gx_session.specs.Wants.{ReplyWants}
 use Rattle.gx_session.specs.Holding.{Handed, HeldRun, held_by, asking_in}
 use Rattle.gx_session.specs.Configurations.{steps}
 use Rattle.gx_session.proofs.Asking.{asks-now, put-does, put-grows, put-takes, asking-early, asking-resumes}
+use Rattle.gx_session.proofs.Asking.{asking-sound}
 use Rattle.gx_session.proofs.Asking.{fault-stops, fault-gives, world-ok, world-err}
 use Rattle.gx_session.proofs.turns.ask_any_put.Goals as goal
 
@@ -24,7 +25,8 @@ returns-in-Err-clause-plays g c coming start entry d f =
     (c.requires.asks ∙ sym a.asking_is)
     (put-does start entry h now c.args.left (Put c.args.c) a c.args.c c.state.result.now.flat
     (Err c.in-Err.fault) refl c.state.ensures
-    (world-err h.world (putting h.world.scene c.state.result.now.flat c.args.c) c.in-Err.fault (value.1.0 other)))))
+    (world-err h.world (putting h.world.scene c.state.result.now.flat c.args.c) c.in-Err.fault (value.1.0 other)))
+    (asking-sound start entry h now c.args.left (Put c.args.c) a tt (λ begins. absurd begins))))
 
 pub returns-in-Ok-clause-plays : goal.returns-in-Ok-clause-plays
 returns-in-Ok-clause-plays g c coming start entry d f =
@@ -38,6 +40,6 @@ returns-in-Ok-clause-plays g c coming start entry d f =
     c.put.new.world w.0 (answer_of h.machine c.in-Ok.reply)
     (ReplyWants h.log h.machine c.in-Ok.reply) c.requires.asks w.2
     (put-does start entry h now c.args.left (Put c.args.c) a c.args.c c.state.result.now.flat
-    (Ok (w.0, c.in-Ok.reply)) refl c.state.ensures w.1) (λ begins. absurd begins)
+    (Ok (w.0, c.in-Ok.reply)) refl c.state.ensures w.1) tt (λ begins. absurd begins)
     (put-takes start entry h now c.args.left (Put c.args.c) a c.args.c c.state.result.now.flat w.0 c.in-Ok.reply refl
     c.state.ensures w.1))

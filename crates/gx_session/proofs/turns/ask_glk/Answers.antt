@@ -6,7 +6,7 @@ use Rattle.gx_session.specs.Holding.{Handed, HeldRun, held_by, asking_in}
 use Rattle.gx_session.specs.Outcomes.{EventGives}
 use Rattle.gx_session.specs.Configurations.{steps}
 use Rattle.gx_session.proofs.Asking.{asks-now, call-does, call-grows, call-takes, call-turns, asking-early}
-use Rattle.gx_session.proofs.Asking.{fault-stops, fault-gives, world-ok, world-err}
+use Rattle.gx_session.proofs.Asking.{asking-sound, fault-stops, fault-gives, world-ok, world-err}
 use Rattle.gx_session.proofs.Calling.{called-none, called-as, asked-none}
 use Rattle.gx_session.proofs.Feeding.{fed-same, fed-as}
 use Rattle.gx_session.proofs.turns.ask_glk.Goals as goal
@@ -38,7 +38,8 @@ returns-in-Err-clause-plays g c =
     (c.requires.asks ∙ sym a.asking_is)
     (call-does start entry h now c.args.wait.left does a c.args.selector c.args.args.now c.as_slice.result.now
     c.args.wait c.state.result.now.flat (Err c.in-Err.fault) refl refl c.state.ensures c.as_slice.ensures.value
-    (world-err {X = Turn} h.world made c.in-Err.fault (value.1.0 other)))))))
+    (world-err {X = Turn} h.world made c.in-Err.fault (value.1.0 other)))
+    (asking-sound start entry h now c.args.wait.left does a tt (λ begins. absurd begins))))))
 
 pub returns-in-Ok-clause-plays : goal.returns-in-Ok-clause-plays
 returns-in-Ok-clause-plays g c =
@@ -63,6 +64,6 @@ returns-in-Ok-clause-plays g c =
     w.0 c.args.wait c.in-Ok.turn c.requires.asks w.2
     (call-does start entry h now c.args.wait.left does a c.args.selector c.args.args.now c.as_slice.result.now
     c.args.wait c.state.result.now.flat (Ok (w.0, c.in-Ok.turn)) refl refl c.state.ensures
-    c.as_slice.ensures.value w.1) (λ begins. begins)
+    c.as_slice.ensures.value w.1) tt (λ begins. absurd begins)
     (call-takes start entry h now c.args.wait.left does a c.args.selector c.args.args.now c.as_slice.result.now
     c.args.wait c.state.result.now.flat w.0 c.in-Ok.turn refl c.state.ensures c.as_slice.ensures.value w.1))))

@@ -3,6 +3,7 @@ use Rattle.std.proofs.Common.{◌≡◌, ℕ, suc, None, inl, refl, subst, sym, 
 use Rattle.std.proofs.lemmas.Result.{err_from_is_err_and}
 use Rattle.gx_machine.specs.Machine.{Whole}
 use Rattle.gx_machine.specs.Advancing.{Passes}
+use Rattle.gx_machine.specs.WaysBack.{HasWaysBack}
 use Rattle.gx_machine.proofs.Passing.{joined, done-logs-none, logs-none}
 use Rattle.gx_machine.proofs.Steps.{went_lower, went_asks}
 use Rattle.gx_machine.proofs.machine.Machine.advance.Goals as goal
@@ -21,6 +22,7 @@ returns-in_err-passed g c =
       step = inl (refl, passed.2);
       stands = tt;
       logs = refl;
+      backs = c.ways_back.ensures;
     })
 
 pub returns-in-Some : goal.returns-in-Some
@@ -36,6 +38,7 @@ returns-in-Some g c =
       step = inl (c.in-Some.ensures.value c.args.word);
       stands = λ some. c.in-Some.ensures.stands;
       logs = refl;
+      backs = c.ways_back.ensures;
     }
 
 pub loop-self-smaller : goal.loop-self-smaller
@@ -49,11 +52,12 @@ loop-self-preserved g c =
     let same : c.put_next.new.self ≡ c.passes-passed.new.self = c.in-None.ensures.none refl in
     let passed = subst (λ (x : Whole). (n : ℕ) × Passes c.args.word n (c.loop-self.self, c.loop-self.budget) None
     (x, c.passes-passed.new.budget) None) (sym same) (c.in_ok-passed.ensures.value c.args.word) in
+    let backs = subst (λ (x : Whole). HasWaysBack x.machine) (sym same) c.ways_back.ensures in
     let before = c.loop-self.invariant.passes in
     let all = joined c.args.word before.0 passed.0 _ _ _ None None None before.1 passed.1 in
     record {
       none = went_asks _ _ _ _ _ went;
-      passes = (suc all.0, ((c.put_next.new.self, c.passes-passed.new.budget), None, all.1, went, refl));
+      passes = (suc all.0, ((c.put_next.new.self, c.passes-passed.new.budget), None, all.1, went, refl, backs));
     }
 
 pub returns-in_default : goal.returns-in_default
@@ -61,6 +65,7 @@ returns-in_default g c =
     let same : c.put_next.new.self ≡ c.passes-passed.new.self = c.in-None.ensures.none refl in
     let passed = subst (λ (x : Whole). (n : ℕ) × Passes c.args.word n (c.loop-self.self, c.loop-self.budget) None
     (x, c.passes-passed.new.budget) None) (sym same) (c.in_ok-passed.ensures.value c.args.word) in
+    let backs = subst (λ (x : Whole). HasWaysBack x.machine) (sym same) c.ways_back.ensures in
     let before = c.loop-self.invariant.passes in
     let all = joined c.args.word before.0 passed.0 _ _ _ None None None before.1 passed.1 in
     record {
@@ -71,6 +76,7 @@ returns-in_default g c =
       step = inl c.in_default.ensures.step;
       stands = c.in_default.ensures.stands;
       logs = done-logs-none _ _;
+      backs = backs;
     }
 
 pub returns-in_default-2 : goal.returns-in_default-2
@@ -78,6 +84,7 @@ returns-in_default-2 g c =
     let same : c.put_next.new.self ≡ c.passes-passed.new.self = c.in-None.ensures.none refl in
     let passed = subst (λ (x : Whole). (n : ℕ) × Passes c.args.word n (c.loop-self.self, c.loop-self.budget) None
     (x, c.passes-passed.new.budget) None) (sym same) (c.in_ok-passed.ensures.value c.args.word) in
+    let backs = subst (λ (x : Whole). HasWaysBack x.machine) (sym same) c.ways_back.ensures in
     let before = c.loop-self.invariant.passes in
     let all = joined c.args.word before.0 passed.0 _ _ _ None None None before.1 passed.1 in
     record {
@@ -88,4 +95,5 @@ returns-in_default-2 g c =
       step = inl c.turn.ensures.step;
       stands = c.turn.ensures.stands;
       logs = logs-none _ _;
+      backs = backs;
     }

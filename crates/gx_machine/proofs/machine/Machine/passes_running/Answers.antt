@@ -23,7 +23,7 @@ loop-preserved g c =
     record {
       none = c.in_ok-pass.ensures.asks;
       passes = λ word. let before = c.loop.invariant.passes word in
-          (suc before.0, ((c.loop.self, c.loop.budget), None, before.1, went word, refl));
+          (suc before.0, ((c.loop.self, c.loop.budget), None, before.1, went word, refl, c.in_ok-pass.ensures.backs));
       no_more = omega (arith, c.in_ok-pass.ensures.no_more, c.loop.invariant.no_more);
     }
 

@@ -6,4 +6,4 @@ pub returns-clause-value : goal.returns-clause-value
 returns-clause-value g c =
     tried_then (c.args.self.now, c.args.budget.now) (c.pass_start.new.self, c.pass_start.new.budget)
     (c.prints_items.new.self, c.prints_items.new.budget)
-    c.pass_start.result c.pass_start.ensures.value c.prints_items.ensures.value
+    c.pass_start.result c.pass_start.ensures.backs c.pass_start.ensures.value c.prints_items.ensures.value

@@ -10,7 +10,7 @@ loop-preserved g c =
     record {
       none = c.pass_printing.ensures.asks;
       passes = λ word. let before = c.loop.invariant.passes word in
-          (suc before.0, ((c.loop.self, c.loop.budget), None, before.1, went word, refl));
+          (suc before.0, ((c.loop.self, c.loop.budget), None, before.1, went word, refl, c.pass_printing.ensures.backs));
       no_more = omega (arith, c.pass_printing.ensures.no_more, c.loop.invariant.no_more);
     }
 

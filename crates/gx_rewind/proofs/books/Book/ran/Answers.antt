@@ -25,6 +25,7 @@ returns-in-Ok g c =
         step = inl h.step;
         stands = h.stands;
         logs = d.is;
+        backs = h.backs;
       },
       d.pends,
     ))
@@ -47,6 +48,7 @@ returns-in_default g c =
         step = inl h.step;
         stands = tt;
         logs = refl;
+        backs = h.backs;
       },
       none-asked c.passed.new.self new (ap (λ (x : Whole). x.asking) same ∙ asks),
     ))
