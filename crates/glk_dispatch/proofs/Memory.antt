@@ -4,6 +4,7 @@ use Rattle.std.proofs.Common.{Bool, true}
 use Rattle.std.proofs.Common.{false}
 use Rattle.std.proofs.Common.{if◌then◌else◌, List, [], ◌∷◌, ◌++◌, length, Option, Some, None}
 use Rattle.std.proofs.Common.{is_some, Result, Ok, Err, refl, subst, ◌⊎◌, inl, inr, arith}
+use Rattle.std.specs.List.{filter, list_any}
 use Rattle.std.proofs.lemmas.Bool.Decides.{nat_tests}
 use Rattle.std.proofs.lemmas.List.{length-append}
 use Rattle.gx_words.specs.Results.{◌>>=◌}
@@ -17,15 +18,16 @@ use Rattle.glk_streams.specs.declared.kinds.FileForm.{FileForm}
 use Rattle.glk_streams.specs.declared.kinds.StreamKind.{StreamKind}
 use Rattle.glk_streams.specs.declared.kinds.StreamKind.TheVariants as kinds
 use Rattle.glk_streams.specs.Stream as one
+use Rattle.glk_windows.specs.Tree.{is_among}
 use Rattle.glk_windows.specs.Changes as windows
-use Rattle.glk_windows.specs.Changes.{some_grow, arranging_grows}
+use Rattle.glk_windows.specs.Changes.{some_grow, closing_grows, arranging_grows}
 use Rattle.glk_events.specs.declared.requests.Request.{Request}
 use Rattle.glk_events.specs.Requests as requests
 use Rattle.glk_world.specs.World.{Scene, Said, silent, Outcome, answered}
 use Rattle.glk_world.specs.World.{is_composed, is_wrapping, then_said}
 use Rattle.glk_world.specs.World.{has_reference, reference_at, arg, waits}
 use Rattle.glk_world.specs.Calls.{is_identifier, new_id, with_reference, with_new_stream, with_window, with_streams}
-use Rattle.glk_world.specs.Calls.{can_open, without_stream}
+use Rattle.glk_world.specs.Calls.{can_open, without_stream, without_window}
 use Rattle.glk_world.specs.Calls.{chars_got, window_stream, with_arrangement}
 use Rattle.glk_world.specs.Shown.{show_prompt, prompt_words, wrapped_text, row_let_go}
 use Rattle.glk_screen.proofs.WrapLaws.{let_go_some}
@@ -291,6 +293,24 @@ arranged_more w win method size key some =
       | inr never ↦ absurd (let e = rw never at some in cc)
     ]
 
+any_left : {A : Type 0} (p q : A → Bool) (xs : List A) → list_any p (filter q xs) ≡ true → list_any p xs ≡ true
+any_left p q [] some = absurd (cc)
+any_left p q (x ∷ xs) some = elim (there_or_not (q x)) [
+  | inl stays ↦ elim (either (p x) (list_any p (filter q xs)) (rw stays at some)) [
+    | inl here ↦ first_of_two (p x) (list_any p xs) here
+    | inr more ↦ second_of_two (p x) (list_any p xs) (any_left p q xs more)
+  ]
+  | inr goes ↦ second_of_two (p x) (list_any p xs) (any_left p q xs (rw goes at some))
+]
+
+closed_more : (w : Scene) (win : ℕ) → closing_grows w.windows win ≡ true → is_more w (without_window w win) ≡ true
+unfolding without_window windows.window_closed closing_grows
+closed_more w win some =
+    let after = without_window w win in
+    or_fourth (nat_lt (length w.streams) (length after.streams)) (nat_lt (length w.references) (length after.references))
+    (nat_lt (length w.requests) (length after.requests)) _
+    (any_left _ (λ g. not (is_among (windows.leaving w.windows.tree win) g.id)) w.windows.grids some)
+
 some_chars : (got : List ℕ × ℕ) (stops : Bool) (read : Result (List ℕ × ℕ) Fault) → read ≡ Ok got
     → (stops ≡ true) ⊎ (input.has_read read ≡ true) → ((length got.0 + ending_len stops) == 0) ≡ false
 some_chars got stops read is (inl on) = rw on (grind (arith, nat_tests))
@@ -391,6 +411,18 @@ pub open_takes : (w : Scene) (args : List ℕ) → can_open w (arg args 0) (arg 
 unfolding window.window_open
 open_takes w args may =
     leaves w _ _ (opened_more w (arg args 0) (arg args 1) (arg args 2) (arg args 3) (arg args 4) may)
+
+pub closed_takes : (w : Scene) (f : FlatState) (room : ℕ) (args : List ℕ)
+    → (closing_grows w.windows (arg args 0) || not (arg args 1 == 0)) ≡ true
+    → Takes w (window.window_close w f room args)
+unfolding window.window_close
+closed_takes w f room args some =
+    let closed : Scene = without_window w (arg args 0) in
+    elim (either (closing_grows w.windows (arg args 0)) (not (arg args 1 == 0)) some) [
+      | inl grows ↦ behind w _ (λ reply. answered closed reply)
+          (λ reply _. leaves w closed reply (closed_more w (arg args 0) grows))
+      | inr given ↦ gives_one w closed f room 0 (arg args 1) _ _ (not_so (arg args 1 == 0) given)
+    ]
 
 pub size_takes : (w : Scene) (f : FlatState) (room : ℕ) (args : List ℕ)
     → (not (arg args 1 == 0) || not (arg args 2 == 0)) ≡ true → Takes w (window.window_get_size w f room args)

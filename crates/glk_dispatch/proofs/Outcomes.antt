@@ -30,7 +30,7 @@ use Rattle.glk_dispatch.proofs.Memory.{not_so, there_or_not, both, Takes, gives,
 use Rattle.glk_dispatch.proofs.Memory.{give_each_some, prompt_takes, delete_takes, exist_takes, Law, no_stream}
 use Rattle.glk_dispatch.proofs.Memory.{some_object}
 use Rattle.glk_dispatch.proofs.Memory.{gestalt_ext_takes}
-use Rattle.glk_dispatch.proofs.Memory.{iterate_takes, open_takes, size_takes, arrange_takes, arrangement_takes}
+use Rattle.glk_dispatch.proofs.Memory.{iterate_takes, open_takes, closed_takes, size_takes, arrange_takes, arrangement_takes}
 use Rattle.glk_dispatch.proofs.Memory.{stream_iterate_takes, memory_takes, temp_takes, by_name_takes}
 use Rattle.glk_dispatch.proofs.Memory.{reference_iterate_takes, copied_takes, line_takes, buffer_takes, case_takes}
 use Rattle.glk_dispatch.proofs.Memory.{poll_takes, line_event_takes, char_event_takes, cancel_takes, file_takes}
@@ -65,7 +65,7 @@ window_laws = (
               (
                 (λ w f room args r e on wants is. open_takes w args wants r is),
                 (
-                  (λ w f room args r e on wants is. some_object (arg args 0 == 0) e on),
+                  (λ w f room args r e on wants is. closed_takes w f room args wants r is),
                   (
                     (λ w f room args r e on wants is. size_takes w f room args wants r is),
                     (

@@ -1,7 +1,7 @@
 -- Where memory may be wanted, by what a call comes to.
 --
 -- Left out is putting to a stream that is there, whose text may have its place on a screen that keeps so much of it
--- alone, and closing a window, where what goes is listed. Of these the rows of the table alone say it.
+-- alone. Of it the rows of the table alone say it.
 use Rattle.std.specs.Prelude.{ℕ, ◌==◌, ◌||◌, ◌&&◌, not, nat_lt, Bool, true, false, IsTrue, List, [], ◌∷◌, length, Ok}
 use Rattle.std.specs.Prelude.{Err}
 use Rattle.std.specs.Int.{is_in_range}
@@ -9,7 +9,6 @@ use Rattle.gx_state.specs.declared.effects.Reply.{Reply}
 use Rattle.glk_streams.specs.Streams as streams
 use Rattle.glk_windows.specs.Changes.{some_grow}
 use Rattle.glk_world.specs.World.{Scene, Said, Outcome, arg}
-use Rattle.glk_replies.specs.Numbers as selectors
 use Rattle.glk_replies.specs.TextNumbers as texts
 use Rattle.glk_replies.specs.declared.Turn.{Turn}
 use Rattle.glk_replies.specs.declared.Turn.TheVariants as turn
@@ -58,11 +57,11 @@ puts_to_stream selector =
     || selector == texts.put_buffer_stream
     || is_in_range texts.put_char_stream_uni texts.put_buffer_stream_uni selector
 
--- what is left out: characters for a stream that is there, and a window that is closed
+-- what is left out: characters for a stream that is there
 abbrev pub is_left_out : Scene → ℕ → List ℕ → Bool
 is_left_out w selector args =
     (puts_to_current selector && streams.has w.streams w.current)
-    || ((puts_to_stream selector || selector == selectors.window_close) && not (arg args 0 == 0))
+    || (puts_to_stream selector && not (arg args 0 == 0))
 
 abbrev pub TakesMemory : Scene → Outcome Turn → Type 0
 TakesMemory w (Ok r) = IsTrue (takes_some w r)

@@ -2,7 +2,7 @@
 -- References"), in rising order of selector.
 use Rattle.std.specs.Prelude.{◌&&◌, ◌||◌, not, ℕ, Bool, true, false, List, [], ◌∷◌, is_some, Ok}
 use Rattle.gx_state.specs.Flat.{FlatState}
-use Rattle.glk_windows.specs.Changes.{arranging_grows}
+use Rattle.glk_windows.specs.Changes.{closing_grows, arranging_grows}
 use Rattle.glk_world.specs.World.{Scene, silent, is_composed, has_reference, Outcome, arg}
 use Rattle.glk_world.specs.Calls.{is_identifier, can_open}
 use Rattle.glk_replies.specs.Numbers as selectors
@@ -48,7 +48,8 @@ window_calls =
     row_with selectors.window_get_root 0 (plain (λ w args. window_get_root w)) ∷
     wants (λ w f args. can_open w (arg args 0) (arg args 1) (arg args 3))
     (maybe_on Window (row_with selectors.window_open 5 (plain window_open))) ∷
-    wants always (giving 1 2 (on Window (row_with selectors.window_close 2 (answers window_close)))) ∷
+    wants (λ w f args. closing_grows w.windows (arg args 0) || is_given 1 w f args)
+    (giving 1 2 (on Window (row_with selectors.window_close 2 (answers window_close)))) ∷
     wants (λ w f args. is_given 1 w f args || is_given 2 w f args)
     (giving 2 1 (on Window (row_with selectors.window_get_size 3 (answers window_get_size)))) ∷
     wants (λ w f args. arranging_grows w.windows (arg args 0) (arg args 1) (arg args 2) (arg args 3))

@@ -1,6 +1,6 @@
 -- The calls of Glk of output, input, the case of characters, styles and events (Glk 0.7.5, "How To Print", "How To
 -- Read", "Events"), and those of Unicode, in rising order of selector.
-use Rattle.std.specs.Prelude.{◌==◌, ◌&&◌, not, nat_lt, ℕ, if◌then◌else◌, Bool, true, false, List, [], ◌∷◌}
+use Rattle.std.specs.Prelude.{◌==◌, not, nat_lt, ℕ, if◌then◌else◌, Bool, true, false, List, [], ◌∷◌}
 use Rattle.gx_state.specs.Flat.{FlatState}
 use Rattle.glk_world.specs.World.{Scene, arg}
 use Rattle.glk_replies.specs.Numbers as selectors

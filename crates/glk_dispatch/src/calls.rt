@@ -177,9 +177,8 @@ pub fn call<A: Allocator + Clone>(
     ensures looked { IfOk result
         (λ turn. (given : Given) → IsGivenFor turn given → Looked state.now.flat room world.new.scene given) }
 
-    // But for characters that are put to a stream that is there, and for a window that is closed, memory is wanted only
-    // where the call comes to what takes some: a reply that writes or pushes, text, an object, a request, a larger
-    // grid, the name of a file.
+    // But for characters that are put to a stream that is there, memory is wanted only where the call comes to what
+    // takes some: a reply that writes or pushes, text, an object, a request, a larger grid, the name of a file.
     ensures memory { is_left_out world.old.scene selector args.now ≡ false → result ≡ Err NoMemory
         → TakesMemory world.old.scene (glk_call world.old.scene state.now.flat room selector args.now) }
 {

@@ -5,7 +5,7 @@ ghost use Rattle.gx_state.specs.Replies.{IsReply};
 ghost use Rattle.glk_objects.specs.Objects.{met_from};
 ghost use Rattle.glk_streams.specs.Streams as streams;
 ghost use Rattle.glk_windows.specs.Windows.{entry_id, is_window, parent};
-ghost use Rattle.glk_windows.specs.Changes.{arranging_grows};
+ghost use Rattle.glk_windows.specs.Changes.{closing_grows, arranging_grows};
 ghost use Rattle.glk_world.specs.Calls.{can_open};
 ghost use Rattle.glk_world.specs.World.{arg, MakesCall};
 ghost use Rattle.glk_object_calls.specs.Windows.{first_window, pair_at, window_open, window_close};
@@ -63,8 +63,7 @@ pub fn window_open(world: &mut World, args: &[u32]) -> Result<Reply, Fault>
     Ok(reply(world.alloc(), id))
 }
 
-/// window_close: closes a window and gives the counts of its stream. What goes with it is listed, so that memory may
-/// always be wanted.
+/// window_close: closes a window and gives the counts of its stream.
 #[tactic(auto, unfolding(crate::specs::Windows::window_close))]
 pub fn window_close<A: Allocator + Clone>(
     world: &mut World,
@@ -73,8 +72,9 @@ pub fn window_close<A: Allocator + Clone>(
     args: &[u32],
 ) -> Result<Reply, Fault>
     requires { IsTrue (is_window world.old.scene.windows (arg args.now 0)) }
-    ensures value { MakesCall (Unit {0}) result world.old world.new
-        (window_close world.old.scene state.now.flat room args.now) }
+    ensures value { MakesCall
+        (IsTrue (closing_grows world.old.scene.windows (arg args.now 0) || not (arg args.now 1 == 0)))
+        result world.old world.new (window_close world.old.scene state.now.flat room args.now) }
     ensures fits { IfOk result (IsReply state.now.flat room) }
 {
     let at = arg(args, 1);

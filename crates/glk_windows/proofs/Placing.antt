@@ -490,7 +490,7 @@ second_refused (Err e) b first second after rest split a new made kept there dis
 
 -- ---- windows are closed
 
-record IsClosed (t after : Shape) (gone : List ℕ) : Type 0 where
+pub record IsClosed (t after : Shape) (gone : List ℕ) : Type 0 where
   pub once : AreDistinct (ids_in after)
   pub left : (id : ℕ) → is_among (ids_in after) id ≡ (is_among (ids_in t) id && not (is_among gone id))
   pub within : (id : ℕ) → is_among gone id ≡ true → is_among (ids_in t) id ≡ true
@@ -528,7 +528,7 @@ closed_absent (Two a first second) win gone =
     let other = not_top second win not_second in
     rw (one, other, closed_absent first win not_first, closed_absent second win not_second) refl
 
-part_absent : (t : Shape) (win : ℕ) → is_among (ids_in t) win ≡ false → part_from t win ≡ None
+pub part_absent : (t : Shape) (win : ℕ) → is_among (ids_in t) win ≡ false → part_from t win ≡ None
 part_absent (One id) win gone = let other : (id == win) ≡ false = grind (arith, gone) in rw other refl
 part_absent (Two a first second) win gone =
     let parts = among_append (ids_in first) (ids_in second) win in
@@ -651,7 +651,7 @@ closed_second a first second after gone distinct closed =
     }
 
 -- a window below the topmost one is closed
-closed_below : (t : Shape) (win : ℕ) → AreDistinct (ids_in t) → is_among (ids_in t) win ≡ true
+pub closed_below : (t : Shape) (win : ℕ) → AreDistinct (ids_in t) → is_among (ids_in t) win ≡ true
     → (shape_id t == win) ≡ false → IsClosed t (closed_in t win) (leaving (Some t) win)
 closed_below (One id) win distinct there below = absurd (let e = there in grind (arith, e, below))
 closed_below (Two a first second) win distinct there below =

@@ -76,11 +76,20 @@ abbrev pub left_of : List Entry → List ℕ → List Entry
 left_of entries ids =
     map (forgetting (map (λ e. e.stream) (chosen ids entries))) (filter (λ e. not (is_among ids e.id)) entries)
 
+-- the grids but for those of these windows
+abbrev pub grids_left : List Grid → List ℕ → List Grid
+grids_left grids ids = filter (λ g. not (is_among ids g.id)) grids
+
 -- a window is closed, with all windows below it, their pair and their streams
 unfoldable pub window_closed : FlatWindows → ℕ → FlatWindows
 window_closed f win = let ids = leaving f.tree win in
-    let grids = filter (λ g. not (is_among ids g.id)) f.grids in
-    fitted (record f { entries = left_of f.entries ids; tree = closed_tree ids f.tree win; grids = grids })
+    let entries = left_of f.entries ids in
+    fitted (record f { entries = entries; tree = closed_tree ids f.tree win; grids = grids_left f.grids ids })
+
+-- that makes a grid larger
+unfoldable pub closing_grows : FlatWindows → ℕ → Bool
+closing_grows f win = let ids = leaving f.tree win in
+    some_grow (closed_tree ids f.tree win) (f.columns, f.rows) (grids_left f.grids ids)
 
 -- ---- arranging
 

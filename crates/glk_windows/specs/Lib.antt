@@ -5,5 +5,6 @@ pub mod Grids
 pub mod Windows
 pub mod Changes
 pub mod Stored
+pub mod Spare
 pub mod Held
 pub mod Laws

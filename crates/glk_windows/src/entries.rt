@@ -1,15 +1,12 @@
 //! What is known of a window beside its place in the tree.
-ghost use Rattle.std.specs.Prelude.{◌≡◌, ◌+◌, ◌<◌, ◌^◌, map, filter, count_by, not, ◌==◌, IsTrue, IfOk};
+ghost use Rattle.std.specs.Prelude.{◌≡◌, ◌+◌, ◌<◌, ◌^◌, map, count_by, not, ◌==◌, IsTrue};
 ghost use Rattle.glk_objects.specs.Objects as objects;
-ghost use Rattle.glk_windows.specs.Tree.{is_among};
 ghost use Rattle.glk_windows.specs.Windows.{entry_id, window_entry};
-ghost use Rattle.glk_windows.specs.Changes.{new_entry, chosen, forgetting};
+ghost use Rattle.glk_windows.specs.Changes.{new_entry, forgetting};
 
 use crate::methods::PAIR;
 use crate::tree::is_among;
 use glk_objects::{Object, place};
-use gx_words::Numbers;
-use std::alloc::{AllocError, Global};
 
 /// All that a story sees of a window.
 #[derive(Clone, Copy, Debug, PartialEq, Eq)]
@@ -86,52 +83,6 @@ pub(crate) fn leaf_count(entries: &[Entry]) -> usize
     ensures { result ≡ count_by (λ e. not (e.kind == PAIR)) entries.now }
 {
     entries.iter().filter(|entry| entry.kind != PAIR).count()
-}
-
-/// Of these identifiers those of windows, in order of creation.
-#[tactic(auto, using(crate::proofs::Lists::gathers))]
-pub(crate) fn chosen_ids(
-    alloc: Global,
-    ids: &[u32],
-    entries: &[Entry],
-) -> Result<Numbers, AllocError>
-    ensures { IfOk result (λ found. found ≡ map entry_id (chosen ids.now entries.now)) }
-{
-    let mut found = Numbers::new(alloc);
-    for entry in entries {
-        if is_among(ids, entry.id) {
-            found.push(entry.id)?;
-        }
-    }
-    Ok(found)
-}
-
-/// The streams of these windows.
-#[tactic(auto, using(crate::proofs::Lists::gathers))]
-pub(crate) fn chosen_streams(
-    alloc: Global,
-    ids: &[u32],
-    entries: &[Entry],
-) -> Result<Numbers, AllocError>
-    ensures { IfOk result (λ found. found ≡ map (λ e. e.stream) (chosen ids.now entries.now)) }
-{
-    let mut found = Numbers::new(alloc);
-    for entry in entries {
-        if is_among(ids, entry.id) {
-            found.push(entry.stream)?;
-        }
-    }
-    Ok(found)
-}
-
-/// Keeps the windows but for those of these identifiers.
-#[tactic(auto, using(glk_objects::proofs::Rising::rising))]
-pub(crate) fn keep_entries(entries: &mut Vec<Entry>, ids: &[u32])
-    requires { objects.AreRising entry_id entries.old.items }
-    ensures value { entries.new.items ≡ filter (λ e. not (is_among ids.now e.id)) entries.old.items }
-    ensures rises { objects.AreRising entry_id entries.new.items }
-{
-    entries.retain(|entry| !is_among(ids, entry.id));
 }
 
 /// Sets a window's echo stream.

@@ -141,19 +141,15 @@ pub(crate) fn part_from(tree: &Tree, win: u32) -> Option<&Tree>
     }
 }
 
-/// Adds the windows of a part of the tree.
-pub(crate) fn push_ids(tree: &Tree, ids: &mut Vec<u32>) -> Result<(), AllocError>
-    ensures { OnOk result (ids.new.items ≡ ids.old.items ++ ids_in (shape_of tree.now)) }
+/// Whether a window is in this part of the tree.
+#[tactic(auto, using(crate::proofs::Tiling::among_append))]
+pub(crate) fn has(tree: &Tree, win: u32) -> bool
+    ensures { result ≡ is_among (ids_in (shape_of tree.now)) win }
 {
     match tree {
-        Tree::Leaf(id) => {
-            ids.push(*id)?;
-            Ok(())
-        }
+        Tree::Leaf(id) => *id == win,
         Tree::Pair(arrangement, first, second) => {
-            ids.push(arrangement.id)?;
-            push_ids(first, ids)?;
-            push_ids(second, ids)
+            arrangement.id == win || has(first, win) || has(second, win)
         }
     }
 }

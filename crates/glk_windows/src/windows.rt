@@ -1,31 +1,29 @@
 //! All windows of a screen (Glk 0.7.5, "Windows").
-ghost use Rattle.std.specs.Prelude.{ℕ, ◌≡◌, ◌+◌, ◌<◌, ◌≤◌, ◌^◌, ◌⊎◌, ◌∷◌, [], ◌++◌, length, map, filter, not, IsTrue};
+ghost use Rattle.std.specs.Prelude.{ℕ, ◌≡◌, ◌+◌, ◌<◌, ◌≤◌, ◌^◌, ◌⊎◌, ◌∷◌, [], ◌++◌, length, map, IsTrue};
 ghost use Rattle.std.specs.Prelude.{vec_len, vec_capacity, OnOk, OnErr, IfOk, MatchOption, Some, None};
 ghost use Rattle.std.specs.Prelude.{◌==◌, if◌then◌else◌};
 ghost use Rattle.std.specs.Option.{option_map};
 ghost use Rattle.std.specs.List.Sorted.{IsStrictlyIncreasing};
 ghost use Rattle.glk_objects.specs.Objects as objects;
-ghost use Rattle.glk_windows.specs.Tree.{shape_of, is_among, split_in, arranged_in};
+ghost use Rattle.glk_windows.specs.Tree.{shape_of, split_in, arranged_in};
 ghost use Rattle.glk_windows.specs.Grids.{grid_id, empty_grid, sized_to};
 ghost use Rattle.glk_windows.specs.Windows.{tree_of, no_windows, entry_id, is_window, window_entry, entry, root};
 ghost use Rattle.glk_windows.specs.Windows.{parent, window, window_pair, sizes_in, sizes, text_size, window_cell};
 ghost use Rattle.glk_windows.specs.Windows.{window_row, is_openable};
 ghost use Rattle.glk_windows.specs.Windows.{can_add, last_given, IsNewId};
 ghost use Rattle.glk_windows.specs.Changes.{fitted, some_grow, rooted, split_by, with_new_window};
-ghost use Rattle.glk_windows.specs.Changes.{leaving};
-ghost use Rattle.glk_windows.specs.Changes.{chosen, left_of, gone, closed_tree, window_closed, allows_arrangement};
+ghost use Rattle.glk_windows.specs.Changes.{gone, window_closed, closing_grows, allows_arrangement};
 ghost use Rattle.glk_windows.specs.Changes.{arranged};
 ghost use Rattle.glk_windows.specs.Changes.{arranging_grows, put_to, cleared_in, moved_in, with_echo_stream};
 ghost use Rattle.glk_windows.specs.Changes.{without_echoes};
 ghost use Rattle.glk_windows.specs.Laws.{AreDistinct, ids_of, AreWhole};
 
-use crate::entries::{
-    Entry, Window, chosen_ids, chosen_streams, entry_at, forget, keep_entries, leaf_count,
-    new_entry, set_echo,
-};
+use crate::closing::{close, keep_grids, remove_entries};
+use crate::entries::{Entry, Window, entry_at, forget, leaf_count, new_entry, set_echo};
 use crate::grid::{self, BLANK, Grid, empty_grid};
 use crate::methods::{BLANK_WINDOW, MOST_WINDOWS, PAIR, TEXT_BUFFER, TEXT_GRID, is_method};
-use crate::tree::{self, Arrangement, Pair, Tree, area_in, id_of, is_among, parent_in, part_from};
+use crate::spare::SpareLists;
+use crate::tree::{self, Arrangement, Pair, Tree, area_in, id_of, parent_in, part_from};
 use glk_objects::place;
 use gx_words::Numbers;
 use std::alloc::{AllocError, Global};
@@ -38,6 +36,8 @@ pub struct Windows {
     entries: Vec<Entry>,
     tree: Option<Tree>,
     grids: Vec<Grid>,
+    /// One list for each window at least, so that none is wanted where windows are closed.
+    spare: SpareLists,
     columns: u32,
     rows: u32,
 }
@@ -69,6 +69,7 @@ impl Windows {
             entries: Vec::new(alloc),
             tree: None,
             grids: Vec::new(alloc),
+            spare: SpareLists::new(alloc),
             columns,
             rows,
         }
@@ -268,6 +269,7 @@ impl Windows {
         ensures { OnOk result (self.new ≡ fitted (rooted self.old kind rock id)) }
     {
         self.entries.reserve(1)?;
+        self.spare.reserve(self.alloc, self.entries.len() + 1)?;
         self.grids.reserve(1)?;
         push_grid(self.alloc, &mut self.grids, kind, id);
         push_entry(&mut self.entries, new_entry(id, kind, rock));
@@ -293,6 +295,7 @@ impl Windows {
         ensures { OnOk result (self.new ≡ fitted (split_by self.old split method size kind rock id)) }
     {
         self.entries.reserve(2)?;
+        self.spare.reserve(self.alloc, self.entries.len() + 2)?;
         self.grids.reserve(1)?;
         let arrangement = Arrangement {
             id: id + 2,
@@ -309,19 +312,20 @@ impl Windows {
     }
 
     /// Closes a window, with all windows below it and their pair; answers their identifiers, which rise.
-    #[tactic(auto, unfolding(crate::specs::Changes::window_closed))]
+    #[tactic(auto, unfolding(crate::specs::Changes::window_closed, crate::specs::Changes::closing_grows))]
     pub fn remove(&mut self, win: u32) -> Result<Numbers, AllocError>
         requires { IsTrue (is_window self.old win) }
         ensures gone { IfOk result (λ ids. ids ≡ gone self.old win) }
         ensures rises { IfOk result IsStrictlyIncreasing }
         ensures new { OnOk result (self.new ≡ window_closed self.old win) }
+        ensures memory { OnErr result (IsTrue (closing_grows self.old win)) }
     {
-        let leaving = leaving(self.alloc, &self.tree, win)?;
-        let gone = remove_entries(self.alloc, &mut self.entries, &leaving)?;
-        keep_grids(&mut self.grids, &leaving);
-        close(&mut self.tree, &leaving, win);
+        let mut gone = self.spare.pop();
+        remove_entries(&mut self.entries, &self.tree, win, &mut gone);
+        keep_grids(&mut self.grids, &self.tree, win);
+        close(&mut self.tree, &gone, win);
         self.fit()?;
-        Ok(gone)
+        Ok(Numbers::from_vec(gone))
     }
 
     /// Whether a window is a pair that may get this method and this key.
@@ -496,65 +500,6 @@ fn fit_grids(
         grid::resize(alloc, &mut grids[at], area)?;
     }
     Ok(())
-}
-
-/// What goes with a window: the pair above it, or 0, and the window with all windows below it.
-fn leaving(alloc: Global, tree: &Option<Tree>, win: u32) -> Result<Vec<u32>, AllocError>
-    ensures { IfOk result (λ ids. ids.items ≡ leaving (tree_of tree.now) win) }
-{
-    let mut ids = Vec::new(alloc);
-    if let Some(tree) = tree {
-        ids.push(parent_in(tree, win))?;
-        if let Some(part) = part_from(tree, win) {
-            tree::push_ids(part, &mut ids)?;
-        }
-    }
-    Ok(ids)
-}
-
-/// Removes the windows of these identifiers, and the echo streams that were streams of theirs; answers which there
-/// were.
-fn remove_entries(
-    alloc: Global,
-    entries: &mut Vec<Entry>,
-    ids: &[u32],
-) -> Result<Numbers, AllocError>
-    requires { objects.AreRising entry_id entries.old.items }
-    ensures gone { IfOk result (λ found. found ≡ map entry_id (chosen ids.now entries.old.items)) }
-    ensures rises { IfOk result IsStrictlyIncreasing }
-    ensures new { OnOk result (entries.new.items ≡ left_of entries.old.items ids.now) }
-    ensures order { objects.AreRising entry_id entries.new.items }
-    ensures err { OnErr result (entries.new.items ≡ entries.old.items) }
-{
-    let gone = chosen_ids(alloc, ids, entries)?;
-    let streams = chosen_streams(alloc, ids, entries)?;
-    keep_entries(entries, ids);
-    forget(streams.as_slice(), entries);
-    Ok(gone)
-}
-
-/// Keeps the grids but for those of these windows.
-#[tactic(auto, using(glk_objects::proofs::Rising::rising))]
-fn keep_grids(grids: &mut Vec<Grid>, ids: &[u32])
-    requires { objects.AreRising grid_id grids.old.items }
-    ensures value { grids.new.items ≡ filter (λ g. not (is_among ids.now g.id)) grids.old.items }
-    ensures rises { objects.AreRising grid_id grids.new.items }
-{
-    grids.retain(|grid| !is_among(ids, grid.id));
-}
-
-/// The tree without a window and without keys that are gone.
-fn close(tree: &mut Option<Tree>, leaving: &[u32], win: u32)
-    ensures { tree_of tree.new ≡ closed_tree leaving.now (tree_of tree.old) win }
-{
-    if let Some(top) = tree {
-        if id_of(top) == win {
-            *tree = None;
-        } else {
-            tree::close(top, win);
-            tree::unkey(top, leaving);
-        }
-    }
 }
 
 /// Gives a pair another arrangement.

@@ -8,7 +8,7 @@ ghost use Rattle.glk_streams.specs.Streams as streams;
 ghost use Rattle.glk_streams.specs.Sound.{IsSoundKind};
 ghost use Rattle.glk_windows.specs.Windows as windows;
 ghost use Rattle.glk_windows.specs.Windows.{no_windows, last_given};
-ghost use Rattle.glk_windows.specs.Changes.{arranging_grows};
+ghost use Rattle.glk_windows.specs.Changes.{closing_grows, arranging_grows};
 ghost use Rattle.glk_events.specs.Requests as requests;
 ghost use Rattle.glk_screen.specs.Texts.{screen_gone};
 ghost use Rattle.glk_world.specs.World.{after, silent, has_reference, reference_id};
@@ -90,13 +90,13 @@ impl World {
         Ok(id)
     }
 
-    /// Closes a window, with all windows below it and their pair; answers the counts of its stream. What goes is
-    /// listed, so that memory may always be wanted.
+    /// Closes a window, with all windows below it and their pair; answers the counts of its stream.
     #[tactic(auto, using(crate::proofs::Kept::both_kept), unfolding(crate::specs::Calls::without_window))]
     pub fn remove_window(&mut self, win: u32) -> Result<(u32, u32), AllocError>
         requires { IsTrue (windows.is_window self.old.scene.windows win) }
         ensures new { OnOk result (self.new ≡ after self.old (silent (without_window self.old.scene win))) }
         ensures value { IfOk result (λ counts. counts ≡ window_counts self.old.scene win) }
+        ensures memory { OnErr result (IsTrue (closing_grows self.old.scene.windows win)) }
     {
         let counts = self.streams.counts(self.windows.entry_at(win).stream);
         let removed = self.windows.remove(win);

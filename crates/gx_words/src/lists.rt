@@ -55,6 +55,13 @@ impl<T> Items<T> {
         })
     }
 
+    /// A list of a vector's items. No memory is asked for.
+    pub fn from_vec(all: Vec<T>) -> Self
+        ensures { result ≡ all.items }
+    {
+        Items { all }
+    }
+
     pub fn len(&self) -> usize
         ensures { result ≡ length self.now }
     {

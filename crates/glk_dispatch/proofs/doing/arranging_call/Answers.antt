@@ -2,10 +2,9 @@
 use Rattle.std.proofs.Common.{◌≡◌, None, arith}
 use Rattle.std.proofs.lemmas.Bool.Decides.{nat_tests}
 use Rattle.std.proofs.lemmas.Grind.{common_steps}
-use Rattle.glk_object_calls.specs.Windows.{window_close}
 use Rattle.glk_dispatch.specs.ObjectCalls.{window_calls}
 use Rattle.glk_dispatch.specs.Ready.{arranging_row}
-use Rattle.glk_dispatch.proofs.Turning.{may_want, no_call}
+use Rattle.glk_dispatch.proofs.Turning.{no_call}
 use Rattle.glk_dispatch.proofs.doing.arranging_call.Goals as goal
 
 pub returns-in-5-clause-fits : goal.returns-in-5-clause-fits
@@ -28,10 +27,7 @@ returns-in-34-clause-fits g c = c.window_get_root.ensures.fits c.args.state.now.
 
 pub returns-in-36-clause-value : goal.returns-in-36-clause-value
 unfolding window_calls
-returns-in-36-clause-value g c = rw c.in-36.is
-    (may_want c.window_close.result c.args.world.now c.window_close.new.world
-    (window_close c.args.world.now.scene c.args.state.now.flat c.args.room c.args.args.now)
-    c.window_close.ensures.value)
+returns-in-36-clause-value g c = rw c.in-36.is c.window_close.ensures.value
 
 pub returns-in-4-clause-value : goal.returns-in-4-clause-value
 unfolding window_calls

@@ -13,9 +13,10 @@ returns-in_err-can_give_pair-clause-value g c =
 pub returns-in_err-read-clause-value : goal.returns-in_err-read-clause-value
 returns-in_err-read-clause-value g c =
     let is : c.from_residual-in_err-read.result ≡ Err NoMemory = search rules in
-    rw is (window_lost _ _ _ _ _ _ c.arg-at.ensures c.in_ok-can_give_pair.ensures)
+    rw is (window_lost _ _ _ _ _ _ c.args.args.now c.arg-at.ensures c.arg.ensures c.in_err-read.ensures.memory
+    c.in_ok-can_give_pair.ensures)
 
 pub returns-clause-value : goal.returns-clause-value
 returns-clause-value g c =
     let done = c.in_ok-read.ensures in let there = c.in_ok-can_give_pair.ensures in
-    window_given _ _ _ _ _ _ _ _ _ _ c.arg-at.ensures c.arg.ensures done.new done.value there c.give.ensures.value
+    window_given _ _ _ _ _ _ c.args.args.now _ _ _ c.arg-at.ensures c.arg.ensures done.new done.value there c.give.ensures.value

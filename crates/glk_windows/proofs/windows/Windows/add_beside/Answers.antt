@@ -1,3 +1,5 @@
+use Rattle.std.proofs.Common.{arith}
+use Rattle.std.proofs.lemmas.Grind.{common_steps}
 use Rattle.glk_windows.proofs.Placing.{placed_beside}
 use Rattle.glk_windows.proofs.windows.Windows.add_beside.Goals as goal
 
@@ -18,4 +20,11 @@ invariant_of-self-2 c =
       )
           (placed_beside _ _ _ c.args.method c.args.size _ _ _ split new.entries c.requires.kind
           c.self.invariant.placed);
+      spare =
+          let len = c.len.ensures in
+          let enough = c.in_ok-reserve-2.ensures.ok in
+          let kept = c.reserve.ensures.len in
+          let first = c.push_entry.ensures.len in
+          let last = c.push_entry-2.ensures.len in
+          grind (arith, common_steps, len, enough, kept, first, last);
     }

@@ -6,4 +6,5 @@ invariant_of-self c = record {
   entries = c.self.invariant.entries;
   grids = c.self.invariant.grids;
   placed = rw c.arrange_tree.ensures (placed_arranged _ _ _ _ _ _ _ c.self.invariant.placed);
+  spare = c.self.invariant.spare;
 }

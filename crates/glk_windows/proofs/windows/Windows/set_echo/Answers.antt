@@ -1,3 +1,4 @@
+use Rattle.glk_windows.proofs.Leaving.{length_with}
 use Rattle.glk_windows.proofs.Placing.{placed_echoed}
 use Rattle.glk_windows.proofs.windows.Windows.set_echo.Goals as goal
 
@@ -8,4 +9,5 @@ invariant_of-self c =
       entries = c.set_echo.ensures.rises;
       grids = c.self.invariant.grids;
       placed = rw c.set_echo.ensures.value (placed_echoed _ _ _ _ there c.self.invariant.placed);
+      spare = rw (c.set_echo.ensures.value, length_with) c.self.invariant.spare;
     }

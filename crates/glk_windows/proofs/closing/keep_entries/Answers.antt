@@ -1,7 +1,7 @@
 use Rattle.std.proofs.Common.{rules}
 use Rattle.std.proofs.lemmas.Fn.{filter_same}
 use Rattle.glk_objects.proofs.Rising.{rises_filter}
-use Rattle.glk_windows.proofs.windows.keep_grids.Goals as goal
+use Rattle.glk_windows.proofs.closing.keep_entries.Goals as goal
 
 pub returns-clause-value : goal.returns-clause-value
 returns-clause-value c = filter_same _ _ _ (λ x b f' k. search rules) _ _ c.retain.ensures.filtered
