@@ -1,6 +1,6 @@
 -- Streams stay sound.
 use Rattle.std.proofs.Common.{◌≡◌, ◌≢◌, ◌≤◌, ◌<◌, ◌+◌, ◌^◌, ◌%◌, ◌==◌, max, nat_lt, ℕ, true, false, List, length}
-use Rattle.std.proofs.Common.{if◌then◌else◌, refl, arith}
+use Rattle.std.proofs.Common.{if◌then◌else◌, refl, arith, sym, ap, ◌∙◌, suc, [], ◌∷◌}
 use Rattle.std.proofs.lemmas.Bool.Decides.{nat_tests}
 use Rattle.glk_streams.specs.declared.kinds.FileForm.{FileForm}
 use Rattle.glk_streams.specs.declared.kinds.FileForm.TheVariants as forms
@@ -9,7 +9,7 @@ use Rattle.glk_streams.specs.declared.kinds.StreamKind.TheVariants as kinds
 use Rattle.glk_streams.specs.declared.kinds.Stream.{Stream}
 use Rattle.glk_streams.specs.Constants.{write_mode, largest}
 use Rattle.glk_streams.specs.Files.{bytes_of_char, byte_at, positions_in, with_bytes, bytes_put}
-use Rattle.glk_streams.specs.Stream.{writable, place_count, put_in, after_put, end_position, window_in}
+use Rattle.glk_streams.specs.Stream.{writable, place_count, put_in, after_put, after_puts, end_position, window_in}
 use Rattle.glk_streams.specs.Sound.{IsSoundKind, IsSoundStream}
 use Rattle.glk_streams.proofs.Contents.{length_spliced}
 
@@ -92,4 +92,27 @@ pub window_put : (s : Stream) (c : ℕ) → window_in s.kind ≢ 0
     }
 window_put s c some = window_kind s.kind (record s { written = (s.written + 1) % 2 ^ 32 }) c some
 
-pub ruleset window_count = (window_put, sound_get)
+puts_off : (s : Stream) (cs : List ℕ) → writable s ≡ false → after_puts s cs ≡ s
+unfolding after_puts after_put
+puts_off s [] off = refl
+puts_off s (c ∷ cs) off = rw off (puts_off s cs off)
+
+puts_on : (s : Stream) (cs : List ℕ) (written : ℕ) → writable s ≡ true → window_in s.kind ≢ 0 → written < 2 ^ 32
+    → after_puts (record s { written = written }) cs ≡ record s { written = (written + length cs) % 2 ^ 32 }
+unfolding after_puts after_put
+puts_on s [] written on some small = let e : (written + 0) % 2 ^ 32 ≡ written = omega arith in rw e refl
+puts_on s (c ∷ cs) written on some small =
+    let next = (written + 1) % 2 ^ 32 in
+    let less : next < 2 ^ 32 = omega arith in
+    let sum : (next + length cs) % 2 ^ 32 ≡ (written + suc (length cs)) % 2 ^ 32 = omega arith in
+    rw (on, window_kind s.kind (record s { written = next }) c some)
+    (puts_on s cs next on some less ∙ ap (λ (n : ℕ). let t : Stream = record s { written = n } in t) sum)
+
+pub window_counts : (s : Stream) (cs : List ℕ) (count : ℕ) → window_in s.kind ≢ 0 → s.written < 2 ^ 32
+    → length cs ≡ count → writable s ≡ true → record s { written = (s.written + count) % 2 ^ 32 } ≡ after_puts s cs
+window_counts s cs count some small same on = rw (sym same) (sym (puts_on s cs s.written on some small))
+
+pub window_stays : (s : Stream) (cs : List ℕ) → writable s ≡ false → s ≡ after_puts s cs
+window_stays s cs off = sym (puts_off s cs off)
+
+pub ruleset window_count = (window_counts, window_stays, sound_get)

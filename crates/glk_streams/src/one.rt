@@ -1,5 +1,5 @@
 //! One stream: a character is put, or got, or its position moves (Glk 0.7.5, "Streams").
-ghost use Rattle.std.specs.Prelude.{ℕ, ◌≡◌, ◌≢◌, ◌≤◌, ◌<◌, ◌+◌, ◌^◌, not, length, OnErr, OnOk, IfOk, IfSome};
+ghost use Rattle.std.specs.Prelude.{ℕ, List, ◌≡◌, ◌≢◌, ◌≤◌, ◌<◌, ◌+◌, ◌^◌, not, length, OnErr, OnOk, IfOk, IfSome};
 ghost use Rattle.std.specs.Prelude.{MatchOption, IsTrue, Some, is_some};
 ghost use Rattle.std.specs.Option.{option_map};
 ghost use Rattle.glk_streams.specs.Stream.{readable, writable, allows_mode, opened, window_of, file_in, without_file};
@@ -169,17 +169,17 @@ pub fn put(stream: &mut Stream, c: u32) -> Result<(), AllocError>
     Ok(())
 }
 
-/// Counts a character that is put to the stream of a window, which has it then.
-#[tactic(auto, using(crate::proofs::Sounds::window_count), unfolding(crate::specs::Stream::after_put))]
-pub fn count(stream: &mut Stream)
+/// Counts so many characters that are put to the stream of a window, which has them then.
+#[tactic(auto, using(crate::proofs::Sounds::window_count))]
+pub fn count(stream: &mut Stream, count: u32)
     requires sound { IsSoundStream stream.old }
     requires window { window_of stream.old ≢ 0 }
-    ensures new { (c : ℕ) → stream.new ≡ after_put stream.old c }
+    ensures new { (cs : List ℕ) → length cs ≡ count → stream.new ≡ after_puts stream.old cs }
     ensures sound { IsSoundStream stream.new }
     ensures id { stream.new.id ≡ stream.old.id }
 {
     if writable(stream) {
-        stream.written = stream.written.wrapping_add(1);
+        stream.written = stream.written.wrapping_add(count);
     }
 }
 

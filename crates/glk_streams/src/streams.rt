@@ -1,5 +1,5 @@
 //! All streams, in order of creation.
-ghost use Rattle.std.specs.Prelude.{ℕ, ◌≡◌, ◌≢◌, ◌≤◌, ◌<◌, ◌+◌, ◌^◌, ◌++◌, ◌∷◌, [], true, false, not, length};
+ghost use Rattle.std.specs.Prelude.{ℕ, List, ◌≡◌, ◌≢◌, ◌≤◌, ◌<◌, ◌+◌, ◌^◌, ◌++◌, ◌∷◌, [], true, false, not, length};
 ghost use Rattle.std.specs.Prelude.{map, get_or, Some, is_some, IfOk, IfSome, MatchOption, OnErr, OnOk, IsTrue};
 ghost use Rattle.std.specs.Option.{option_map};
 ghost use Rattle.glk_objects.specs.Objects.{IsAboveAll, IsBelowAll, object_place, all_but, next, met_from};
@@ -211,15 +211,16 @@ impl Streams {
         one::put(&mut self.items[at], c)
     }
 
-    /// Counts a character that is put to the stream of a window, which stands at a place.
+    /// Counts so many characters that are put to the stream of a window, which stands at a place.
     #[tactic(auto, using(crate::proofs::Lists::places))]
-    pub fn count(&mut self, at: usize, _id: u32)
+    pub fn count(&mut self, at: usize, _id: u32, count: u32)
         requires there { IsTrue (has self.old _id) }
         requires place { at ≡ object_place id_of self.old _id }
         requires window { one.window_of (stream self.old _id) ≢ 0 }
-        ensures { (c : ℕ) → self.new ≡ with_stream self.old (one.after_put (stream self.old _id) c) }
+        ensures { (cs : List ℕ) → length cs ≡ count
+            → self.new ≡ with_stream self.old (one.after_puts (stream self.old _id) cs) }
     {
-        one::count(&mut self.items[at]);
+        one::count(&mut self.items[at], count);
     }
 
     /// Puts the bytes of a slice as characters to a stream that takes them at once: one of memory, or a file in Latin-1

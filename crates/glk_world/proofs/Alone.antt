@@ -1,12 +1,15 @@
 -- A stream with no echo stream: what is put to it goes nowhere else.
 use Rattle.std.proofs.Common.{suc, ◌≡◌, ◌≢◌, ◌==◌, ◌||◌, ◌&&◌, not, ℕ, Bool, true, false, if◌then◌else◌, List, [], ◌∷◌}
 use Rattle.std.proofs.Common.{◌++◌, length, refl, sym, ap, ◌∙◌, arith, ◌⊎◌, inl, inr, Result, Ok, Err, OnErr, OnOk}
-use Rattle.std.proofs.Common.{IfOk, IsTrue}
+use Rattle.std.proofs.Common.{IfOk, IsTrue, map}
 use Rattle.std.proofs.lemmas.Bool.Decides.{nat_tests}
 use Rattle.std.proofs.lemmas.List.{append-nil}
 use Rattle.glk_objects.specs.Objects as objects
 use Rattle.glk_objects.specs.Objects.{IsBelowAll}
 use Rattle.glk_objects.proofs.Places.{id_at}
+use Rattle.std.specs.Char.{encode_utf8}
+use Rattle.std.specs.Str.{encode_utf8_all}
+use Rattle.gx_words.specs.Constants.{line_feed}
 use Rattle.glk_text.specs.Characters.{shown}
 use Rattle.glk_streams.specs.declared.kinds.Stream.{Stream}
 use Rattle.glk_streams.specs.declared.kinds.StreamKind.{StreamKind}
@@ -15,10 +18,12 @@ use Rattle.glk_streams.specs.Stream as one
 use Rattle.glk_streams.specs.Streams as streams
 use Rattle.glk_windows.specs.Constants.{text_buffer}
 use Rattle.glk_screen.specs.Texts.{screen_put}
-use Rattle.glk_world.specs.World.{Scene, FlatWorld, Said, after, silent, then_said, is_composed}
+use Rattle.glk_world.specs.declared.views.View.{View}
+use Rattle.glk_world.specs.declared.views.View.TheVariants as view
+use Rattle.glk_world.specs.World.{Scene, FlatWorld, Said, after, silent, then_said, is_composed, is_wrapping, is_direct}
 use Rattle.glk_world.specs.Putting.{said_char, buffer_put, window_of_stream, entry_of, is_plain_text, window_put}
 use Rattle.glk_world.specs.Putting.{counted, stream_put, echo_of, put_along, put_of, put_chars, grows_along, put_grows}
-use Rattle.glk_world.specs.Putting.{chain_end, places_of, no_places}
+use Rattle.glk_world.specs.Putting.{chain_end, places_of, no_places, flowed, fresh_after}
 use Rattle.glk_objects.proofs.Found.{has_with, has_below, at_with_here, below_with}
 use Rattle.glk_world.proofs.Ranks.{nothing_along, stream_put_streams, put_step, put_id, put_window, buffer_put_streams}
 use Rattle.glk_world.proofs.Turns.{end_here}
@@ -225,6 +230,13 @@ plain w s h =
 plain_echo : (w : Scene) (s : ℕ) → IsPlain w s → echo_of w s ≡ 0
 plain_echo w s is = rw is.own is.echo
 
+-- of so many characters one is counted
+pub counted_once : (new all : List Stream) (s c : ℕ)
+    → ((cs : List ℕ) → length cs ≡ 1 → new ≡ streams.with_stream all (one.after_puts (streams.stream all s) cs))
+    → new ≡ streams.with_stream all (one.after_put (streams.stream all s) c)
+unfolding one.after_puts
+counted_once new all s c is = is (c ∷ []) refl
+
 -- a character comes to the text, or to the composed screen
 pub plain_put : (w : Scene) (s c : ℕ) → IsBelowAll streams.id_of w.streams 0 → is_plain_text w s ≡ true
     → put_of w s c ≡ buffer_put (counted w s c) (window_of_stream w s) (shown c)
@@ -309,6 +321,54 @@ pub place_stays : (w : Scene) (s c win d at : ℕ) → at ≡ objects.object_pla
 place_stays w s c win d at is =
     rw (buffer_put_streams (counted w s c) win d)
     (is ∙ sym (place_with w.streams (one.after_put (streams.stream w.streams s) c) s))
+
+-- ---- characters that are text as they come
+
+direct_text : (w : Scene) (v : View) → w.view ≡ v → is_direct v ≡ true
+    → (is_composed w ≡ false) × (is_wrapping w ≡ false)
+direct_text w view.Rows is on = (rw is refl, rw is refl)
+direct_text w view.Plain is on = (rw is refl, rw is refl)
+direct_text w view.Screen is on = absurd (cc)
+direct_text w view.WrappedRows is on = absurd (cc)
+direct_text w view.WrappedPlain is on = absurd (cc)
+
+abbrev pub all_said : Scene → ℕ → List ℕ → Said
+all_said w s cs =
+    (record (all_counted w s cs) { fresh = fresh_after w.fresh cs }, encode_utf8_all (map shown cs))
+
+abbrev char_said : Scene → ℕ → ℕ → Scene
+char_said w s c = record (counted w s c) { fresh = shown c == line_feed }
+
+direct_put : (w : Scene) (s c : ℕ) → is_direct w.view ≡ true → IsBelowAll streams.id_of w.streams 0
+    → is_plain_text w s ≡ true → put_of w s c ≡ (char_said w s c, encode_utf8 (shown c))
+unfolding buffer_put flowed
+direct_put w s c on first h =
+    let is = direct_text w w.view refl on in
+    plain_put w s c first h ∙ rw (is.0, is.1) refl
+
+direct_more : (w : Scene) (s c : ℕ) (cs : List ℕ) → streams.has w.streams s ≡ true
+    → (all_said (char_said w s c) s cs).0 ≡ (all_said w s (c ∷ cs)).0
+unfolding fresh_after
+direct_more w s c cs there =
+    ap (λ (x : Scene). let v : Scene = record w { streams = x.streams; fresh = fresh_after (shown c == line_feed) cs } in v)
+    (counted_more w s c cs there)
+
+pub direct_puts : (w : Scene) (s : ℕ) (cs : List ℕ) → is_direct w.view ≡ true → IsBelowAll streams.id_of w.streams 0
+    → is_plain_text w s ≡ true → put_chars w s cs ≡ all_said w s cs
+unfolding fresh_after one.after_puts
+direct_puts w s [] on first h =
+    puts_end w s ∙ ap (λ (all : List Stream). let v : Scene = record w { streams = all } in silent v)
+    (sym (with_same w.streams s (plain_there w s h)))
+direct_puts w s (c ∷ cs) on first h =
+    let new = one.after_put (streams.stream w.streams s) c in
+    let v = char_said w s c in
+    let rest = direct_puts v s cs on (below_with streams.id_of streams.no_stream w.streams new 0 first)
+    (plain_counted w s c h) in
+    puts_step w s c cs
+    ∙ ap (λ (said : Said). then_said said (λ more. put_chars more s cs)) (direct_put w s c on first h)
+    ∙ ap (λ (said : Said). let both : Said = (said.0, encode_utf8 (shown c) ++ said.1) in both) rest
+    ∙ ap (λ (x : Scene). let both : Said = (x, encode_utf8 (shown c) ++ encode_utf8_all (map shown cs)) in both)
+    (direct_more w s c cs (plain_there w s h))
 
 -- ---- a stream with no window
 

@@ -1,16 +1,17 @@
 -- One turn of the showing of rows, grids and characters.
 use Rattle.std.proofs.Common.{suc, ◌≡◌, ◌≢◌, ◌<◌, ◌≤◌, ◌+◌, ℕ, List, [], ◌∷◌, ◌++◌, append_assoc, length, get_or, map}
-use Rattle.std.proofs.Common.{drop, drop-cons, refl, arith}
+use Rattle.std.proofs.Common.{drop, drop-cons, refl, arith, Bool, ◌==◌}
 use Rattle.std.proofs.lemmas.Grind.{common_steps}
 use Rattle.std.proofs.lemmas.List.{append-nil}
 use Rattle.std.specs.Char.{encode_utf8}
 use Rattle.std.specs.Str.{encode_utf8_all}
+use Rattle.gx_words.specs.Constants.{line_feed}
 use Rattle.glk_text.specs.Characters.{shown}
 use Rattle.glk_screen.specs.Wrapper.{FlatWrapper, wrapped_char, wrapped_chars}
 use Rattle.glk_screen.proofs.Flowing.{grown}
 use Rattle.glk_world.specs.declared.grids.ShownGrid.{ShownGrid}
 use Rattle.glk_world.specs.World.{FlatWorld, after, silent, said_each}
-use Rattle.glk_world.specs.Putting.{put_of, put_chars}
+use Rattle.glk_world.specs.Putting.{put_of, put_chars, fresh_after}
 use Rattle.glk_world.specs.Shown.{said_row, said_grid}
 
 -- what says nothing changes nothing
@@ -64,6 +65,15 @@ shown_more chars i d out within = let e : i + 1 ≡ suc i = omega arith in
 
 pub ruleset shown_turns = (shown_none, shown_more)
 
+pub fresh_none : (chars : List ℕ) (n : ℕ) (fresh : Bool) → length chars ≤ n → fresh_after fresh (drop n chars) ≡ fresh
+unfolding fresh_after
+fresh_none chars n fresh past = let none : drop n chars ≡ [] = grind (arith, common_steps) in rw none refl
+
+pub fresh_more : (chars : List ℕ) (i d : ℕ) (fresh : Bool) → i < length chars
+    → fresh_after (shown (get_or chars i d) == line_feed) (drop (i + 1) chars) ≡ fresh_after fresh (drop i chars)
+unfolding fresh_after
+fresh_more chars i d fresh within = let e : i + 1 ≡ suc i = omega arith in rw (e, drop-cons chars i d) refl
+
 -- characters that are put one after another
 pub puts_none : (w : FlatWorld) (stream : ℕ) (cs : List ℕ) (n : ℕ) → length cs ≤ n
     → after w (put_chars w.scene stream (drop n cs)) ≡ w
@@ -78,6 +88,8 @@ unfolding put_chars
 puts_more w stream cs i d within = let e : i + 1 ≡ suc i = omega arith in rw (e, drop-cons cs i d, append_assoc) refl
 
 pub ruleset puts_turns = (puts_none, puts_more, some_within)
+
+pub ruleset text_turns = (shown_turns, fresh_none, fresh_more, some_within)
 
 -- characters that are wrapped one after another
 pub wrap_none : (row : FlatWrapper) (cs : List ℕ) (n : ℕ) → length cs ≤ n → (wrapped_chars row (drop n cs)).1 ≡ row

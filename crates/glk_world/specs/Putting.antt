@@ -79,6 +79,11 @@ unfoldable pub put_chars : Scene → ℕ → List ℕ → Said
 put_chars w stream [] = silent w
 put_chars w stream (c ∷ cs) = then_said (put_of w stream c) (λ more. put_chars more stream cs)
 
+-- whether nothing is shown since a line feed, after these characters of the text
+unfoldable pub fresh_after : Bool → List ℕ → Bool
+fresh_after fresh [] = fresh
+fresh_after fresh (c ∷ cs) = fresh_after (shown c == line_feed) cs
+
 -- a stream of a text buffer window that has no echo stream
 abbrev pub is_plain_text : Scene → ℕ → Bool
 is_plain_text w stream =

@@ -98,6 +98,12 @@ wraps v = false
 abbrev pub is_wrapping : Scene → Bool
 is_wrapping w = wraps w.view
 
+-- what comes to a text buffer is text as it comes: the screen isn't composed, and no text is wrapped
+abbrev pub is_direct : View → Bool
+is_direct view.Rows = true
+is_direct view.Plain = true
+is_direct v = false
+
 -- the world before any call, on a screen of so many columns and rows
 abbrev pub empty_world : View → ℕ → ℕ → FlatWorld
 empty_world v columns rows = record {

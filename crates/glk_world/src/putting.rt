@@ -1,6 +1,8 @@
 //! Characters that are put to streams and got from them (Glk 0.7.5, "Streams" and "Echo Streams").
 ghost use Rattle.std.specs.Prelude.{◌≡◌, ◌≢◌, ◌⊎◌, ℕ, ◌+◌, ◌≤◌, ◌<◌, ◌^◌, List, [], not, length, true, false, OnOk};
-ghost use Rattle.std.specs.Prelude.{OnErr, IfOk, MatchOption, IsTrue};
+ghost use Rattle.std.specs.Prelude.{OnErr, IfOk, MatchOption, IsTrue, ◌++◌, map, string_bytes, Bool};
+ghost use Rattle.std.specs.Str.{encode_utf8_all};
+ghost use Rattle.glk_text.specs.Characters.{shown};
 ghost use Rattle.std.specs.Option.{option_map};
 ghost use Rattle.glk_objects.specs.Objects.{object_place};
 ghost use Rattle.glk_streams.specs.Stream as one;
@@ -8,8 +10,8 @@ ghost use Rattle.glk_streams.specs.Streams as streams;
 ghost use Rattle.glk_windows.specs.Windows as windows;
 ghost use Rattle.glk_windows.specs.Windows.{window_entry};
 ghost use Rattle.glk_windows.specs.Constants.{text_buffer};
-ghost use Rattle.glk_world.specs.World.{after, silent};
-ghost use Rattle.glk_world.specs.Putting.{said_char, buffer_put, window_of_stream, window_put};
+ghost use Rattle.glk_world.specs.World.{after, silent, is_direct};
+ghost use Rattle.glk_world.specs.Putting.{said_char, buffer_put, window_of_stream, window_put, fresh_after};
 ghost use Rattle.glk_world.specs.Putting.{stream_put};
 ghost use Rattle.glk_world.specs.Putting.{stream_grows, echo_of, put_along, put_of, put_chars, is_plain_text};
 ghost use Rattle.glk_world.specs.Putting.{grows_along, takes_chars};
@@ -127,11 +129,11 @@ impl World {
         ensures place { OnOk result (at ≡ object_place streams.id_of self.new.scene.streams stream) }
         ensures window { OnOk result (win ≡ window_of_stream self.new.scene stream) }
     {
-        self.streams.count(at, stream);
+        self.streams.count(at, stream, 1);
         self.buffer_put(win, show(c))
     }
 
-    /// Puts characters to such a stream, one after another.
+    /// Puts characters to such a stream, one after another: in one go where they are text as they come.
     #[tactic(auto, using(crate::proofs::Texts::puts_turns))]
     fn puts_found(
         &mut self,
@@ -146,9 +148,34 @@ impl World {
         ensures ok { OnOk result (self.new ≡ after self.old (put_chars self.old.scene stream chars.now)) }
         ensures memory { OnErr result (chars.now ≢ []) }
     {
+        if let Ok(count) = u32::try_from(chars.len()) {
+            if self.view.is_direct() {
+                return self.puts_direct(at, stream, chars, count);
+            }
+        }
         for c in chars {
             self.put_found(at, win, stream, *c)?;
         }
+        Ok(())
+    }
+
+    /// Puts so many characters to such a stream in one go.
+    fn puts_direct(
+        &mut self,
+        at: usize,
+        stream: u32,
+        chars: &[u32],
+        count: u32,
+    ) -> Result<(), AllocError>
+        requires text { IsTrue (is_plain_text self.old.scene stream) }
+        requires place { at ≡ object_place streams.id_of self.old.scene.streams stream }
+        requires view { IsTrue (is_direct self.old.scene.view) }
+        requires count { length chars.now ≡ count }
+        ensures ok { OnOk result (self.new ≡ after self.old (put_chars self.old.scene stream chars.now)) }
+        ensures memory { OnErr result (chars.now ≢ []) }
+    {
+        self.fresh = push_text(&mut self.text, chars, self.fresh)?;
+        self.streams.count(at, stream, count);
         Ok(())
     }
 
@@ -369,4 +396,20 @@ impl World {
             self.windows.set_echo(win, stream);
         }
     }
+}
+
+/// Adds characters as they are shown; says whether nothing was shown since a line feed, as was so before or not.
+#[tactic(auto, using(crate::proofs::Texts::text_turns))]
+fn push_text(text: &mut String, chars: &[u32], fresh: bool) -> Result<bool, AllocError>
+    ensures text { OnOk result (string_bytes text.new ≡ string_bytes text.old ++ encode_utf8_all (map shown chars.now)) }
+    ensures fresh { IfOk result (λ now. now ≡ fresh_after fresh chars.now) }
+    ensures memory { OnErr result (chars.now ≢ []) }
+{
+    let mut fresh = fresh;
+    for c in chars {
+        let shown = show(*c);
+        text.push(shown)?;
+        fresh = u32::from(shown) == LINE_FEED;
+    }
+    Ok(fresh)
 }

@@ -1,6 +1,6 @@
 //! How the text that a story shows is put together.
 ghost use Rattle.std.specs.Prelude.{◌≡◌};
-ghost use Rattle.glk_world.specs.World.{wraps};
+ghost use Rattle.glk_world.specs.World.{wraps, is_direct};
 
 /// What is shown of windows.
 #[derive(Clone, Copy, Debug, PartialEq, Eq)]
@@ -23,5 +23,12 @@ impl View {
         ensures { result ≡ wraps self }
     {
         matches!(self, View::WrappedRows | View::WrappedPlain)
+    }
+
+    /// Whether what comes to a text buffer is text as it comes.
+    pub(crate) fn is_direct(self) -> bool
+        ensures { result ≡ is_direct self }
+    {
+        matches!(self, View::Rows | View::Plain)
     }
 }
