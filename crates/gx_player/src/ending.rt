@@ -4,11 +4,11 @@
 //! Both are written at once where there is memory to put them together, and else piece by piece, which takes none.
 //! So no ending is silent. Names and reasons are left out only where nothing is known of them.
 use crate::misread::misread;
-use crate::real::{Act, LastCall};
 use crate::reasons::{DeviceReason, Reason, StepReason, WordsReason};
 use crate::shown::{Cause, Shown};
 use crate::stopped::step_reason;
 use crate::stories::{file_reason, starts_at};
+use gx_devices::{Act, LastCall};
 use gx_session::{Ended, statuses};
 use gx_words::Fault;
 use std::alloc::{AllocError, Allocator, Global};

@@ -2,7 +2,7 @@
 //! [--screen | [--plain] [--wrap]] [--job JOB]`: plays a Glulx story over standard input, standard output and the files
 //! of the current folder, also on a tape that goes back; checks, lists or assembles one; or measures the machine.
 //!
-//! `play` (gx_play) does all of it over objects that are handed in; `real` has those of the program.
+//! `play` (gx_play) does all of it over devices that are handed in; gx_devices has those of the program.
 //!
 //! How the run ended is the status of the program, with a line on standard error. Where that doesn't say it whole, a
 //! second line has the reason in a sentence (`ending`); no contract speaks of that.
@@ -11,19 +11,18 @@
 mod ending;
 mod misread;
 mod options;
-mod real;
 mod reasons;
 mod shown;
 mod stopped;
 mod stories;
 
 use ending::{Known, tell};
+use gx_devices::{FolderShelf, Patient, StdSink, StdSource};
 use gx_play::play;
 use gx_pool::PagePool;
 use gx_session::{Ended, statuses};
 use rand_chacha::ChaCha20Rng;
 use rand_core::SeedableRng;
-use real::{FolderShelf, Patient, StdSink, StdSource};
 use std::alloc::{Allocator, Global};
 use std::env::{Env, FillError};
 use std::io::ErrorKind;

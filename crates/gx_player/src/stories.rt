@@ -1,8 +1,8 @@
 //! What is wrong with a file that was read as a story or a text.
-use crate::real::{Found, LastCall};
 use crate::reasons::{FileReason, Guess};
 use crate::shown::{Shown, Version};
 use gx_asm::{AsmFault, ListFault};
+use gx_devices::{Found, LastCall};
 use gx_session::{Ended, statuses};
 use gx_story::StoryFault;
 use std::alloc::Allocator;

@@ -12,6 +12,7 @@ ghost use Rattle.std.specs.Io.KnownBytes.{ReadConsumes, WriteAppends};
 ghost use Rattle.std.specs.IoError.{error_kind};
 
 use std::io::{self, ErrorKind, Read, Write};
+use std::marker::Model;
 use std::thread;
 use std::time::{Clock, Duration};
 
@@ -25,9 +26,16 @@ pub struct Patient<'a, C, D> {
     device: D,
 }
 
+impl<'a, C, D> Model for Patient<'a, C, D> {
+    ghost Value = { D };
+
+    ghost view = { λ s. s.device };
+}
+
 impl<'a, C: Clock, D> Patient<'a, C, D> {
+    /// A device that isn't asked yet. The clock measures its pauses.
     pub fn new(clock: &'a C, device: D) -> Patient<'a, C, D>
-        ensures { result.device ≡ device }
+        ensures { result ≡ device }
     {
         Patient { clock, device }
     }
@@ -49,11 +57,11 @@ impl<'a, C: Clock, D> Patient<'a, C, D> {
 }
 
 impl<C: Clock, R: Read> Read for Patient<'_, C, R> {
-    ghost remaining = { λ s. R.remaining s.device };
+    ghost remaining = { R.remaining };
 
     fn read(&mut self, buf: &mut [u8]) -> io::Result<usize>
         ensures bound { ReadsAtMost result buf.new }
-        ensures bytes { ReadConsumes (R.remaining self.old.device) (R.remaining self.new.device) result buf.new }
+        ensures bytes { ReadConsumes (R.remaining self.old) (R.remaining self.new) result buf.new }
         ensures ready { IfErr result (λ error. error_kind error ≢ ErrorKind.Interrupted
             × error_kind error ≢ ErrorKind.WouldBlock) }
     {
@@ -69,11 +77,11 @@ impl<C: Clock, R: Read> Read for Patient<'_, C, R> {
 }
 
 impl<C: Clock, W: Write> Write for Patient<'_, C, W> {
-    ghost contents = { λ s. W.contents s.device };
+    ghost contents = { W.contents };
 
     fn write(&mut self, buf: &[u8]) -> io::Result<usize>
         ensures bound { WritesAtMost result buf.now }
-        ensures bytes { WriteAppends (W.contents self.old.device) (W.contents self.new.device) result buf.now }
+        ensures bytes { WriteAppends (W.contents self.old) (W.contents self.new) result buf.now }
         ensures ready { IfErr result (λ error. error_kind error ≢ ErrorKind.Interrupted
             × error_kind error ≢ ErrorKind.WouldBlock) }
     {

@@ -8,9 +8,12 @@
 //! that it has more than was asked for. std doesn't say which file a name opens, what is in it, what
 //! its metadata tell, what a removal takes away, nor when a call fails; no contract here does either.
 //! What is kept of the last call (`last`) is for whoever is told how a run ended.
-ghost use Rattle.std.specs.Prelude.{◌≡◌, ◌≢◌, ◌↔◌, true, false, Ok, Err, Some, IfOk, IfSome, MatchResult};
+ghost use Rattle.std.specs.Prelude.{◌≡◌, ◌≢◌, ◌↔◌, true, false, None, Ok, Err, Some, IfOk, IfSome, IsSomeAnd};
+ghost use Rattle.std.specs.Prelude.{MatchResult, option_copied, option_map};
 ghost use Rattle.std.specs.IoError.{error_kind};
-ghost use Rattle.gx_outside.specs.Files.{no_files};
+ghost use Rattle.std.specs.Result.{result_err};
+ghost use Rattle.gx_devices.specs.Devices.{seen_folder};
+ghost use Rattle.gx_devices.specs.Last.{IsCallOf, IsNoted, looked};
 ghost use Rattle.gx_outside.specs.Outside.{HasCause, IsBounded, no_call, shelf_cause};
 ghost use Rattle.gx_outside.specs.Shelves.{ShelfCall, load_of};
 
@@ -23,6 +26,7 @@ use gx_words::Bytes;
 use std::alloc::Global;
 use std::fs::{File, OpenFile};
 use std::io::{ErrorKind, Read};
+use std::marker::Model;
 use std::rt::Files;
 use std::time::Clock;
 use std::{fs, io};
@@ -36,10 +40,18 @@ pub struct FolderShelf<'a, R> {
     last: Option<LastCall>,
 }
 
+impl<'a, R> Model for FolderShelf<'a, R> {
+    ghost use Rattle.gx_devices.specs.Devices.{HeldFolder};
+
+    ghost Value = { HeldFolder };
+
+    ghost view = { λ s. record { calls = s.calls; last = s.last } };
+}
+
 impl<'a, R: Files> FolderShelf<'a, R> {
     /// The shelf takes the bytes that it loads from the allocator.
     pub fn new(alloc: Global, rt: &'a R) -> FolderShelf<'a, R>
-        ensures { result.calls ≡ no_call }
+        ensures { result ≡ record { calls = no_call; last = None } }
     {
         FolderShelf {
             rt,
@@ -50,7 +62,9 @@ impl<'a, R: Files> FolderShelf<'a, R> {
     }
 
     /// What is known of the last call; None where there was none.
-    pub fn last(&self) -> Option<&LastCall> {
+    pub fn last(&self) -> Option<&LastCall>
+        ensures { option_copied result ≡ self.now.last }
+    {
         self.last.as_ref()
     }
 
@@ -60,6 +74,7 @@ impl<'a, R: Files> FolderShelf<'a, R> {
         ensures answer { MatchResult answer (λ given. result ≡ Ok given) (λ error.
             MatchResult result (λ _. ⊥) (λ fault.
             (fault ≡ ShelfFault.NoMemory) ↔ (error_kind error ≡ ErrorKind.OutOfMemory))) }
+        ensures last { IsSomeAnd self.new.last (IsCallOf act name.now (result_err answer)) }
     {
         let error = answer.as_ref().err().copied();
         self.last = Some(LastCall::new(self.alloc, act, name, error));
@@ -69,6 +84,15 @@ impl<'a, R: Files> FolderShelf<'a, R> {
             matches!(answer, Err(ShelfFault::NoMemory)),
         );
         answer
+    }
+
+    /// Keeps what was read in the last call, if it handed out a file.
+    fn look(&mut self, loaded: &Result<Load, ShelfFault>)
+        ensures { self.new ≡ record self.old { last = option_map (looked loaded.now) self.old.last } }
+    {
+        if let (Ok(load), Some(last)) = (loaded, &mut self.last) {
+            last.look(load);
+        }
     }
 }
 
@@ -132,22 +156,20 @@ fn found<T: Drop>(answer: io::Result<T>) -> io::Result<bool>
 }
 
 impl<R: Files<File = File> + Clock> Shelf for FolderShelf<'_, R> {
-    ghost seen = { λ s. record { calls = s.calls; tells = false; files = no_files } };
+    ghost seen = { seen_folder };
 
-    // What a call does is said as far as std tells, which is how it is counted. That a run makes the session's calls
-    // is proved for every shelf, whatever `called` says of it.
-    ghost called = { λ before c now. ShelfCall (record { calls = before.calls; tells = false; files = no_files }) c
-        (record { calls = now.calls; tells = false; files = no_files }) };
+    // What a call does is said as far as std tells, which is how it is counted and what is kept of it. That a run makes
+    // the session's calls is proved for every shelf, whatever `called` says of it.
+    ghost called = { λ before c now. ShelfCall (seen_folder before) c (seen_folder now)
+        × IsSomeAnd now.last (IsNoted c) };
 
-    ghost called_so = { λ before c now does. does };
+    ghost called_so = { λ before c now does. does.0 };
 
     fn load(&mut self, name: &str, most: usize) -> Result<Load, ShelfFault> {
         let own = FolderName::of(name);
         let loaded = load_file(self.rt, self.alloc, own.as_str(), most);
         let loaded = self.note(Act::Read, name, loaded);
-        if let (Ok(load), Some(last)) = (&loaded, &mut self.last) {
-            last.look(load);
-        }
+        self.look(&loaded);
         loaded
     }
 

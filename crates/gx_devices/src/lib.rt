@@ -1,4 +1,4 @@
-//! The real objects: standard input, standard output and the files of the current folder.
+//! The program's devices: standard input, standard output and the files of the current folder.
 //!
 //! They count their calls and failures as each device does. As devices they tell nothing of what they
 //! hold, since std tells no byte that an operating system gives or takes. What they do with the bytes
@@ -11,6 +11,8 @@
 //! - `names` has the name of a file in the folder, which is a shorter one where the file's is too long.
 //! - `patient` asks a device again that was interrupted, or isn't ready.
 //! - `replace` puts a new file in an old one's place, with all the bytes, or fails.
+#![tactic(auto)]
+
 mod folder;
 mod last;
 mod names;

@@ -1,7 +1,7 @@
 -- Between two pieces the bytes that were taken are what the reader has lost, and they are at most `most`.
 use Rattle.std.proofs.Common.{◌≤◌, ◌+◌, ◌-◌, length}
 use Rattle.std.specs.Io.KnownBytes.{Consumes}
-use Rattle.gx_player.proofs.real.folder.read_file.Given as goal
+use Rattle.gx_devices.proofs.folder.read_file.Given as goal
 
 abbrev pub invariant-pieces : goal.invariant-pieces
 invariant-pieces g l = (length l.bytes ≤ l.most)
