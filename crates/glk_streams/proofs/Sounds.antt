@@ -86,12 +86,6 @@ window_kind (kinds.Window win) s c some = refl
 window_kind (kinds.Memory at len wide) s c some = absurd (some refl)
 window_kind (kinds.File name content form) s c some = absurd (some refl)
 
-pub window_put : (s : Stream) (c : ℕ) → window_in s.kind ≢ 0
-    → put_in s.kind (record s { written = (s.written + 1) % 2 ^ 32 }) c ≡ record s {
-      written = (s.written + 1) % 2 ^ 32;
-    }
-window_put s c some = window_kind s.kind (record s { written = (s.written + 1) % 2 ^ 32 }) c some
-
 puts_off : (s : Stream) (cs : List ℕ) → writable s ≡ false → after_puts s cs ≡ s
 unfolding after_puts after_put
 puts_off s [] off = refl

@@ -401,7 +401,8 @@ impl World {
 /// Adds characters as they are shown; says whether nothing was shown since a line feed, as was so before or not.
 #[tactic(auto, using(crate::proofs::Texts::text_turns))]
 fn push_text(text: &mut String, chars: &[u32], fresh: bool) -> Result<bool, AllocError>
-    ensures text { OnOk result (string_bytes text.new ≡ string_bytes text.old ++ encode_utf8_all (map shown chars.now)) }
+    ensures text { OnOk result
+        (string_bytes text.new ≡ string_bytes text.old ++ encode_utf8_all (map shown chars.now)) }
     ensures fresh { IfOk result (λ now. now ≡ fresh_after fresh chars.now) }
     ensures memory { OnErr result (chars.now ≢ []) }
 {

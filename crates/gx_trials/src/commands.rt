@@ -1,17 +1,16 @@
 //! Command lines, and what they come to (files `.commands`).
 //!
 //! A line has the words after the program's name, each between bars, and after these `shelf NUMBERS` or `sink NUMBERS`,
-//! the calls that fail, from 1 on, and `text LINES`, the file `text`; after `=>` the text that is sent, or `<hello>`
-//! for the bytes of that story, and after `:` the program's line without its name. A line feed is `/`. What follows `;`
-//! at a line's head is a remark.
+//! the calls that fail, from 1 on, with `,` between the two, and `text LINES`, the file `text`; after `=>` the text
+//! that is sent, or `<hello>` for the bytes of that story, and after `:` the program's line without its name. A line
+//! feed is `/`. What follows `;` at a line's head is a remark.
 //!
 //! The shelf has the stories `hello`, `-`, `--steps`, `a b` and `höle`, which are one and the same and show `Hi` in
 //! twelve steps, `wrong`, whose checksum differs, and `string`, whose start function is a string.
-use crate::notation::counts_of;
-use crate::runs::{Devices, MOST_PAGES, run};
+use crate::runs::{Devices, MOST_PAGES, Told, run};
 use crate::tally::{Place, Tally};
-use crate::wanted::compare_text;
-use anyhow::{Context, Result, ensure};
+use anyhow::{Result, bail};
+use gx_outside::MemShelf;
 use std::alloc::Global;
 
 /// The names of the story that shows `Hi`.
@@ -20,93 +19,91 @@ const NAMES: [&str; 5] = ["hello", "-", "--steps", "a b", "höle"];
 /// Where the type of the story's start function stands.
 const FUNCTION_TYPE: usize = 36;
 
-/// What a line says of the devices: the calls that fail, and the file `text`.
-#[derive(Drop)]
-struct Given {
-    shelf: Vec<u64>,
-    sink: Vec<u64>,
-    text: Option<String>,
-}
-
-/// Reads what stands behind the last bar.
-fn given_in(alloc: Global, written: &str) -> Result<Given> {
-    let mut given = Given {
-        shelf: Vec::new(alloc),
-        sink: Vec::new(alloc),
-        text: None,
+/// Devices with the files, and as what stands behind the last bar has them.
+fn devices_of(alloc: Global, hello: &[u8], given: &str) -> Result<Devices> {
+    let (fails, text) = match given.split_once("text ") {
+        Some((fails, text)) => (fails, Some(text)),
+        None => (given, None),
     };
-    let mut fails = written;
-    if let Some((before, lines)) = written.split_once("text ") {
-        given.text = Some(lines.replace(alloc, "/", "\n")?);
-        fails = before;
-    }
-    let (shelf, sink) = fails.split_once("sink").unwrap_or((fails, ""));
-    given.sink = counts_of(alloc, sink)?;
-    if let Some(numbers) = shelf.trim().strip_prefix("shelf") {
-        given.shelf = counts_of(alloc, numbers)?;
-    } else {
-        ensure!(shelf.trim().is_empty(), "no device has the name {shelf}");
-    }
-    Ok(given)
+    let fails = fails.replace(alloc, ",", "\n")?;
+    let mut devices = Devices::new(alloc, fails.as_str())?;
+    put_files(alloc, &mut devices.shelf, hello, text)?;
+    Ok(devices)
 }
 
-/// The story with another byte at a place.
-fn changed(alloc: Global, hello: &[u8], place: usize, byte: u8) -> Result<Vec<u8>> {
+fn put_files(alloc: Global, shelf: &mut MemShelf, hello: &[u8], text: Option<&str>) -> Result<()> {
+    for name in NAMES.iter() {
+        shelf.put(name, hello)?;
+    }
+    if let Some(text) = text {
+        shelf.put("text", text.replace(alloc, "/", "\n")?.as_bytes())?;
+    }
+    put_changed(
+        alloc,
+        shelf,
+        "wrong",
+        hello,
+        (hello.len().saturating_sub(1), 1),
+    )?;
+    put_changed(alloc, shelf, "string", hello, (FUNCTION_TYPE, 0xE0))
+}
+
+/// Puts the story with another byte at a place.
+fn put_changed(
+    alloc: Global,
+    shelf: &mut MemShelf,
+    name: &str,
+    hello: &[u8],
+    (place, byte): (usize, u8),
+) -> Result<()> {
     let mut story = Vec::from_slice(alloc, hello)?;
     if let Some(old) = story.as_mut_slice().get_mut(place) {
         *old = byte;
     }
-    Ok(story)
+    shelf.put(name, story.as_slice())?;
+    Ok(())
 }
 
-/// Devices with the files, of which some calls fail.
-fn devices_with(alloc: Global, hello: &[u8], given: &Given) -> Result<Devices> {
-    let mut devices = Devices::failing(alloc, given.shelf.as_slice(), given.sink.as_slice())?;
-    for name in NAMES {
-        devices.shelf.put(name, hello)?;
-    }
-    let wrong = changed(alloc, hello, hello.len().saturating_sub(1), 1)?;
-    devices.shelf.put("wrong", wrong.as_slice())?;
-    let string = changed(alloc, hello, FUNCTION_TYPE, 0xE0)?;
-    devices.shelf.put("string", string.as_slice())?;
-    if let Some(text) = &given.text {
-        devices.shelf.put("text", text.as_bytes())?;
-    }
-    Ok(devices)
+/// What words come to, each with a bar before it.
+fn told_by(alloc: Global, hello: &[u8], words: &str, given: &str) -> Result<Told> {
+    let devices = devices_of(alloc, hello, given)?;
+    let words = format!(in alloc; "gx_player{words}")?;
+    run(alloc, MOST_PAGES, words.as_str(), devices)
 }
 
-/// Plays words, each with a bar before it; how it ends.
-fn ending(alloc: Global, written: &str, devices: &mut Devices) -> Result<String> {
-    let mut words = Vec::new(alloc);
-    words.push("gx_player")?;
-    if let Some(rest) = written.strip_prefix('|') {
-        for word in rest.split('|') {
-            words.push(word)?;
-        }
-    } else {
-        ensure!(written.is_empty(), "words without bars");
+/// The words of a line, what stands behind the last bar, what is sent, and what is said.
+fn parts_of(line: &str) -> Option<(&str, &str, &str, &str)> {
+    let (written, wanted) = line.split_once("=>")?;
+    let (shown, said) = wanted.split_once(':')?;
+    let (words, given) = written.rsplit_once('|')?;
+    if !words.is_empty() && !words.starts_with('|') {
+        return None;
     }
-    Ok(run(alloc, MOST_PAGES, words.as_slice(), devices)?.line)
+    Some((words, given.trim(), shown.trim(), said.trim()))
 }
 
 /// Compares what the words of a line come to.
 fn compare_line(alloc: Global, hello: &[u8], line: &str) -> Result<()> {
-    let (written, wanted) = line.split_once("=>").context("a line without =>")?;
-    let (shown, said) = wanted.split_once(':').context("no colon")?;
-    let (words, given) = written
-        .trim()
-        .rsplit_once('|')
-        .context("words without bars")?;
-    let mut devices = devices_with(alloc, hello, &given_in(alloc, given)?)?;
-    let line = ending(alloc, words, &mut devices)?;
-    let (line, said) = (line.as_str(), said.trim());
-    let well = said.is_empty() && line.starts_with("well");
-    ensure!(well || line == said, "it ends {line}");
-    if shown.trim() == "<hello>" {
-        return compare_text(devices.sink.bytes(), hello);
+    let Some((words, given, shown, said)) = parts_of(line) else {
+        bail!("not words between bars, =>, a text, a colon and a line");
+    };
+    let told = told_by(alloc, hello, words, given)?;
+    compare_told(alloc, hello, &told, shown, said)
+}
+
+/// Compares a line that was told, where there is one, and what was shown.
+fn compare_told(alloc: Global, hello: &[u8], told: &Told, shown: &str, said: &str) -> Result<()> {
+    let line = told.line.as_str();
+    let said = if said.is_empty() && line.starts_with("well") {
+        line
+    } else {
+        said
+    };
+    if shown == "<hello>" {
+        return told.compare(said, hello);
     }
-    let shown = shown.trim().replace(alloc, "/", "\n")?;
-    compare_text(devices.sink.bytes(), shown.as_bytes())
+    let shown = shown.replace(alloc, "/", "\n")?;
+    told.compare(said, shown.as_bytes())
 }
 
 /// Compares what each line of a table comes to.

@@ -8,26 +8,25 @@
 //! Glk's calls those of `world`, in the order of the standard, and of `saves`, most of which begin with a jump over
 //! the first 128 bytes, which a save repeats.
 //!
-//! - `stories` plays files of stories, run by run, whose two kinds `small` and `calls` read and compare; `commands` has
-//!   those of command lines. Each is known by its ending. `notation` has what their lines have in common, `lines` those
-//!   of a run, `story_files` the file that they make, `wanted` what is compared.
+//! - `stories` plays files of stories, which are of two kinds, and says how they are written; `story` plays one of
+//!   their runs, `programs` reads what it plays, and `story_files` is the file that this makes. `commands` has command
+//!   lines. `notation` has what all lines have in common, `wanted` how anything is compared and told.
 //! - `runs` plays a command line over objects in memory, `fronts` a file that is cut at each byte, `sequel` a story
 //!   that goes on where memory ran out, and `rewinding` one that goes back.
 //! - `parts` calls parts of the machine by themselves, for what no story shows.
 //! - `tally` counts.
 #![tactic(auto)]
 
-mod calls;
 mod commands;
 mod fronts;
-mod lines;
 mod notation;
 mod parts;
+mod programs;
 mod rewinding;
 mod runs;
 mod sequel;
-mod small;
 mod stories;
+mod story;
 mod story_files;
 mod tally;
 mod wanted;
@@ -69,9 +68,9 @@ fn play_file<R: Files + Alloc + Print>(
     let table = table.as_str();
     let before = tally.counted();
     match name.rsplit('.').next() {
-        Some("small") => play_all(rt, alloc, Kind::Small, name, table, tally)?,
+        Some("small") => play_all(rt, alloc, Kind::small(), name, table, tally)?,
         Some("calls") => {
-            let kind = Kind::Calls(common.selectors.as_str());
+            let kind = Kind::calls(common.selectors.as_str());
             play_all(rt, alloc, kind, name, table, tally)?;
         }
         Some("commands") => {

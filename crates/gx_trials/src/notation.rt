@@ -14,37 +14,53 @@ pub fn facts(line: &str) -> (&str, &str) {
     (key, rest.trim())
 }
 
+/// What the last line of a kind says, if there is one.
+pub fn last<'a>(lines: &'a str, kind: &str) -> Option<&'a str> {
+    let mut last = None;
+    for line in lines.lines() {
+        let (key, rest) = facts(line);
+        if key == kind {
+            last = Some(rest);
+        }
+    }
+    last
+}
+
+/// What the last line of a kind says; an empty text where there is none.
+pub fn text<'a>(lines: &'a str, kind: &str) -> &'a str {
+    last(lines, kind).unwrap_or_default()
+}
+
 /// Whether lines hold nothing but remarks.
 pub fn are_remarks(lines: &str) -> bool {
     lines.lines().all(|line| facts(line).0.is_empty())
 }
 
-/// How many stories begin in lines.
-fn stories_in(lines: &str) -> usize {
-    let mut count = 0usize;
-    for line in lines.lines() {
-        if facts(line).0 == "story" {
-            count = count.saturating_add(1);
-        }
-    }
-    count
-}
-
-/// The name of the first story in lines; an empty one where there is none.
-fn first_name(lines: &str) -> &str {
-    for line in lines.lines() {
-        if let ("story", name) = facts(line) {
-            return name;
-        }
-    }
-    ""
-}
-
 /// The name of the story that these lines are; an empty one where there are several or none.
 pub fn name_of(lines: &str) -> &str {
-    match stories_in(lines) {
-        1 => first_name(lines),
-        _ => "",
+    let mut name = "";
+    for line in lines.lines() {
+        if let ("story", found) = facts(line) {
+            if !name.is_empty() {
+                return "";
+            }
+            name = found;
+        }
+    }
+    name
+}
+
+/// The lines of the run of a story that one of them plays.
+pub fn lines_of_run(alloc: Global, story: &str, line: &str) -> Result<String> {
+    let (key, more) = facts(line);
+    match key {
+        "also" => Ok(format!(in alloc; "{story}\n{}", more.replace(alloc, ",", "\n")?)?),
+        "faults" => {
+            let (above, _) = story.split_once(line).unwrap_or((story, ""));
+            let (number, call) = more.split_once(' ').unwrap_or((more, ""));
+            Ok(format!(in alloc; "{above}\n{call}\nends fault {number}")?)
+        }
+        _ => Ok(String::from_str(alloc, story)?),
     }
 }
 
@@ -58,21 +74,12 @@ pub fn number(text: &str) -> Result<u32> {
 }
 
 /// The numbers of a list.
-pub fn numbers_of(alloc: Global, text: &str) -> Result<Vec<u32>> {
+pub fn numbers_of(alloc: Global, text: &str) -> Result<Vec<u64>> {
     let mut numbers = Vec::new(alloc);
     for word in text.split_whitespace() {
-        numbers.push(number(word)?)?;
+        numbers.push(u64::from(number(word)?))?;
     }
     Ok(numbers)
-}
-
-/// The numbers of calls.
-pub fn counts_of(alloc: Global, text: &str) -> Result<Vec<u64>> {
-    let mut counts = Vec::new(alloc);
-    for word in text.split_whitespace() {
-        counts.push(u64::from(number(word)?))?;
-    }
-    Ok(counts)
 }
 
 /// A word, and the data after it.
@@ -84,14 +91,19 @@ pub fn named_data(alloc: Global, text: &str) -> Result<(&str, Vec<u8>)> {
 /// The bytes of data.
 pub fn data_of(alloc: Global, data: &str) -> Result<Vec<u8>> {
     let mut bytes = Vec::new(alloc);
+    add_data(alloc, &mut bytes, data)?;
+    Ok(bytes)
+}
+
+fn add_data(alloc: Global, bytes: &mut Vec<u8>, data: &str) -> Result<()> {
     for (index, piece) in data.split('\'').enumerate() {
         if index % 2 == 1 {
             bytes.extend_from_slice(piece.as_bytes())?;
         } else {
-            add_numbers(alloc, &mut bytes, piece)?;
+            add_numbers(alloc, bytes, piece)?;
         }
     }
-    Ok(bytes)
+    Ok(())
 }
 
 /// Adds bytes of two digits, which may be repeated, and words of eight.
@@ -113,21 +125,19 @@ fn add_repeated(alloc: Global, bytes: &mut Vec<u8>, byte: u8, count: u32) -> Res
     Ok(())
 }
 
-/// A list of words in eight digits each.
-pub fn words_in(alloc: Global, list: &str) -> Result<String> {
-    let mut text = String::new(alloc);
-    for words in list.split_whitespace() {
-        let (word, count) = words.split_once('*').unwrap_or((words, "1"));
-        add_words(alloc, &mut text, number(word)?, number(count)?)?;
+/// Adds words to a text, in eight digits each, with a blank before each.
+pub fn add_words(text: &mut String, words: &str) -> Result<()> {
+    for word in words.split_whitespace() {
+        let (word, count) = word.split_once('*').unwrap_or((word, "1"));
+        add_word(text, u64::from(number(word)?), number(count)?)?;
     }
-    Ok(text)
+    Ok(())
 }
 
-/// Adds a word again and again to a text of words in hexadecimal.
-pub fn add_words(alloc: Global, text: &mut String, word: u32, count: u32) -> Result<()> {
+/// Adds a word again and again.
+pub fn add_word(text: &mut String, word: u64, count: u32) -> Result<()> {
     for _ in 0..count {
-        let gap = if text.is_empty() { "" } else { " " };
-        text.push_str(&format!(in alloc; "{gap}{word:08X}")?)?;
+        write!(text, " {word:08X}")?;
     }
     Ok(())
 }

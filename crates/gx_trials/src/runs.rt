@@ -1,19 +1,25 @@
-//! A run of `play` over objects in memory, and what it came to.
+//! A run of `play` over objects in memory, and what it told.
 //!
 //! Each run has a pool of pages of its own, and it is an error where a page is still out when all of the run is
 //! dropped. The random words of all runs are the same.
-use anyhow::{Result, ensure};
+use crate::notation::{data_of, facts, last, named_data, numbers_of, text};
+use crate::wanted::{compare, compare_bytes, compare_number};
+use anyhow::{Result, bail};
 use gx_machine::Machine;
 use gx_outside::{MemShelf, MemSink, MemSource};
 use gx_play::play;
 use gx_pool::PagePool;
 use gx_session::{Ended, statuses};
+use gx_words::Bytes;
 use rand_chacha::ChaCha20Rng;
 use rand_core::SeedableRng;
 use std::alloc::Global;
 
 /// How many pages a run may have out where its story doesn't say it: as many as one of the program.
 pub const MOST_PAGES: usize = 805_306_368;
+
+/// How many bytes a source gives at a time where its story doesn't say it.
+const PIECE: usize = 0x2000;
 
 /// The bytes of the start function's frame before its values.
 const FRAME: usize = 12;
@@ -26,7 +32,7 @@ pub struct Devices {
     pub shelf: MemShelf,
 }
 
-/// What a run came to.
+/// What a run told.
 #[derive(Drop)]
 pub struct Told {
     /// One of gx_session's statuses.
@@ -38,108 +44,196 @@ pub struct Told {
     pub out: usize,
     /// What is left in the machine; None where none was started.
     pub left: Option<Left>,
+    /// What it was played with.
+    pub devices: Devices,
 }
 
 /// What a run left in its machine.
 #[derive(Drop)]
 pub struct Left {
-    /// The fixed part of the start function's frame, as words in hexadecimal.
-    pub frame: String,
-    /// The values of the start function's frame and all above them, as words in hexadecimal.
-    pub stack: String,
-    /// How many copies are kept for undo.
-    pub copies: usize,
-    pub memory: Vec<u8>,
-    /// Where it stands: the address of the next instruction, the stack pointer and the sum of RAM's words.
-    pub place: String,
+    /// Lines: the size of memory, how many copies are kept for undo, the place where it stands (the address of the next
+    /// instruction, the stack pointer and the sum of RAM's words), and as words in hexadecimal the fixed part of the
+    /// start function's frame and the stack above it.
+    pub facts: String,
+    pub memory: Bytes,
 }
 
 impl Devices {
-    /// Devices without input, of which these calls fail, and no file.
-    pub fn failing(alloc: Global, shelf_fails: &[u64], sink_fails: &[u64]) -> Result<Devices> {
+    /// Devices as lines have them, with their input and their files, and the calls of each that fail.
+    pub fn new(alloc: Global, lines: &str) -> Result<Devices> {
         Ok(Devices {
-            source: MemSource::new(alloc, b"", 1, &[])?,
-            sink: MemSink::new(alloc, sink_fails)?,
-            shelf: MemShelf::new(alloc, shelf_fails)?,
+            source: source_of(alloc, lines)?,
+            sink: MemSink::new(alloc, numbers_of(alloc, text(lines, "sink"))?.as_slice())?,
+            shelf: shelf_of(alloc, lines)?,
         })
     }
 
-    /// Devices without input, with one file, and none that fails.
-    pub fn with_story(alloc: Global, name: &str, file: &[u8]) -> Result<Devices> {
-        let mut devices = Devices::failing(alloc, &[], &[])?;
-        devices.shelf.put(name, file)?;
+    /// The same with the file of a story.
+    pub fn with_story(alloc: Global, lines: &str, story: &[u8]) -> Result<Devices> {
+        let mut devices = Devices::new(alloc, lines)?;
+        devices.shelf.put("story", story)?;
         Ok(devices)
     }
 }
 
-/// Plays a command line over a pool of so many pages.
-pub fn run(alloc: Global, most: usize, words: &[&str], devices: &mut Devices) -> Result<Told> {
-    let pool = PagePool::new(alloc, most);
+/// A source with the input of lines.
+fn source_of(alloc: Global, lines: &str) -> Result<MemSource> {
+    let piece = match last(lines, "piece") {
+        Some(piece) => usize::from_str_radix(piece, 16)?,
+        None => PIECE,
+    };
+    let input = data_of(alloc, text(lines, "input"))?;
+    let fails = numbers_of(alloc, text(lines, "source"))?;
+    Ok(MemSource::new(alloc, input.as_slice(), piece.max(1), fails.as_slice())?)
+}
+
+/// A shelf with the files of lines.
+fn shelf_of(alloc: Global, lines: &str) -> Result<MemShelf> {
+    let mut shelf = MemShelf::new(alloc, numbers_of(alloc, text(lines, "shelf"))?.as_slice())?;
+    put_files(alloc, &mut shelf, lines)?;
+    Ok(shelf)
+}
+
+fn put_files(alloc: Global, shelf: &mut MemShelf, lines: &str) -> Result<()> {
+    for line in lines.lines() {
+        if let ("file", rest) = facts(line) {
+            let (name, data) = named_data(alloc, rest)?;
+            shelf.put(name, data.as_slice())?;
+        }
+    }
+    Ok(())
+}
+
+impl Told {
+    /// The bytes that were shown.
+    pub fn shown(&self) -> &[u8] {
+        self.devices.sink.bytes()
+    }
+
+    /// All that can be compared with the lines of a story, as lines.
+    pub fn facts(&self, alloc: Global) -> Result<String> {
+        let (line, steps, out) = (self.line.as_str(), self.steps, self.out);
+        let (unbegun, left) = match &self.left {
+            Some(left) => ("", left.facts.as_str()),
+            None => ("unbegun ", ""),
+        };
+        Ok(format!(in alloc; "ends {unbegun}{line}\nsteps {steps}\nout {out}\n{left}")?)
+    }
+
+    /// Compares the line and what was shown.
+    pub fn compare(&self, line: &str, shown: &[u8]) -> Result<()> {
+        compare("ends", line, self.line.as_str())?;
+        compare_bytes("shown", shown, Some(self.shown()))
+    }
+
+    /// Compares what two runs left, which has to be alike.
+    pub fn compare_left(&self, other: &Told) -> Result<()> {
+        match (&self.left, &other.left) {
+            (Some(one), Some(other)) => one.compare(other),
+            _ => bail!("one of two runs has no machine"),
+        }
+    }
+}
+
+impl Left {
+    /// Compares what is left at two times, which has to be alike.
+    pub fn compare(&self, other: &Left) -> Result<()> {
+        compare("left", self.facts.as_str(), other.facts.as_str())?;
+        compare_bytes(
+            "memory",
+            self.memory.as_slice(),
+            Some(other.memory.as_slice()),
+        )
+    }
+}
+
+/// Plays a command line, whose words have a bar between them, over a pool of so many pages.
+pub fn run(alloc: Global, pages: usize, words: &str, devices: Devices) -> Result<Told> {
+    let pool = PagePool::new(alloc, pages);
     let told = run_in(alloc, &pool, words, devices)?;
-    let out = pool.out();
-    ensure!(out == 0, "{out} pages are out when all is dropped");
+    compare_number(
+        "pages that are out when all is dropped",
+        0,
+        pool.out() as u64,
+    )?;
     Ok(told)
 }
 
-fn run_in(alloc: Global, pool: &PagePool, words: &[&str], devices: &mut Devices) -> Result<Told> {
-    let ended = play_in(alloc, pool, words, devices);
-    tell(alloc, pool, &ended)
+fn run_in(alloc: Global, pool: &PagePool, words: &str, devices: Devices) -> Result<Told> {
+    let mut devices = devices;
+    let ended = play_in(alloc, pool, words, &mut devices)?;
+    tell(alloc, pool, &ended, devices)
 }
 
 /// Plays a command line over a pool: the one call of `play`.
 pub fn play_in<'p>(
     alloc: Global,
     pool: &'p PagePool,
-    words: &[&str],
+    words: &str,
     devices: &mut Devices,
-) -> Ended<&'p PagePool> {
+) -> Result<Ended<&'p PagePool>> {
+    let words: Vec<&str> = words.split('|').collect(alloc)?;
     let mut dice = ChaCha20Rng::from_seed([0; 32]);
-    play(
+    Ok(play(
         alloc,
         pool,
-        words,
+        words.as_slice(),
         &mut devices.source,
         &mut devices.sink,
         &mut devices.shelf,
         &mut dice,
-    )
+    ))
 }
 
 /// Tells how a run over a pool ended, and what it left.
-pub fn tell(alloc: Global, pool: &PagePool, ended: &Ended<&PagePool>) -> Result<Told> {
-    let line = ending(alloc, ended)?;
-    let left = left_by(alloc, ended)?;
+pub fn tell(
+    alloc: Global,
+    pool: &PagePool,
+    ended: &Ended<&PagePool>,
+    devices: Devices,
+) -> Result<Told> {
+    let left = match &ended.machine {
+        Some(machine) => Some(left_in(alloc, machine)?),
+        None => None,
+    };
     Ok(Told {
         status: ended.status,
-        line,
+        line: ending(alloc, ended)?,
         steps: ended.steps,
         out: pool.out(),
         left,
+        devices,
     })
-}
-
-fn left_by(alloc: Global, ended: &Ended<&PagePool>) -> Result<Option<Left>> {
-    match &ended.machine {
-        Some(machine) => Ok(Some(left_in(alloc, machine)?)),
-        None => Ok(None),
-    }
 }
 
 /// What is left in a machine.
 pub fn left_in(alloc: Global, machine: &Machine<&PagePool>) -> Result<Left> {
-    let (frame, stack) = stack_of(alloc, machine)?;
-    let bytes = machine.state().memory().bytes(alloc)?;
-    let memory = Vec::from_slice(alloc, bytes.as_slice())?;
-    let state = machine.state();
-    let (pc, sp) = (state.pc(), state.stack().size());
-    let sum = sum_of(memory.as_slice(), state.ramstart() as usize);
-    Ok(Left {
-        frame,
-        stack,
-        copies: machine.undo_len(),
-        memory,
-        place: format!(in alloc; "{pc:08x} {sp} {sum}")?,
-    })
+    let memory = machine.state().memory().bytes(alloc)?;
+    let mut facts = String::new(alloc);
+    add_facts(&mut facts, machine, memory.as_slice())?;
+    Ok(Left { facts, memory })
+}
+
+fn add_facts(facts: &mut String, machine: &Machine<&PagePool>, memory: &[u8]) -> Result<()> {
+    let (state, copies, size) = (machine.state(), machine.undo_len(), memory.len());
+    let (pc, stack) = (state.pc(), state.stack().bytes());
+    let (sp, sum) = (stack.len(), sum_of(memory, state.ramstart() as usize));
+    write!(
+        facts,
+        "size {size:X}\ncopies {copies}\nplace {pc:08x} {sp} {sum}\nframe "
+    )?;
+    add_bytes(facts, stack.get(..FRAME).unwrap_or_default())?;
+    facts.push_str("\nstack ")?;
+    add_bytes(facts, stack.get(FRAME..).unwrap_or_default())
+}
+
+/// Adds bytes as words in hexadecimal.
+fn add_bytes(text: &mut String, bytes: &[u8]) -> Result<()> {
+    for (index, byte) in bytes.iter().enumerate() {
+        let gap = if index % 4 == 0 { " " } else { "" };
+        write!(text, "{gap}{byte:02X}")?;
+    }
+    Ok(())
 }
 
 /// The sum of the words of a memory from an address on, modulo 2^32.
@@ -157,14 +251,6 @@ fn sum_of(memory: &[u8], start: usize) -> u32 {
     sum
 }
 
-/// The fixed part of the start function's frame, and all above it.
-fn stack_of(alloc: Global, machine: &Machine<&PagePool>) -> Result<(String, String)> {
-    let bytes = machine.state().stack().bytes();
-    let frame = words_of(alloc, bytes.get(..FRAME).unwrap_or_default())?;
-    let values = words_of(alloc, bytes.get(FRAME..).unwrap_or_default())?;
-    Ok((frame, values))
-}
-
 /// How a run ended: the program's line without its name, `well` where there is none, and all numbers where the fault
 /// or its place isn't 0 though the line doesn't say it.
 fn ending(alloc: Global, ended: &Ended<&PagePool>) -> Result<String> {
@@ -175,23 +261,14 @@ fn ending(alloc: Global, ended: &Ended<&PagePool>) -> Result<String> {
         _ => fault == 0 && at == 0,
     };
     let line = ended.line(alloc)?;
-    match line.strip_prefix("gx_player: ") {
-        Some(text) if told => Ok(String::from_str(alloc, text)?),
-        None if told && status == statuses::ENDED => {
-            Ok(format!(in alloc; "well after {steps} steps")?)
-        }
-        _ => Ok(format!(in alloc;
+    let mut ending = String::new(alloc);
+    match line.as_str().strip_prefix("gx_player: ") {
+        Some(text) if told => ending.push_str(text),
+        None if told && status == statuses::ENDED => { write!(ending, "well after {steps} steps") }
+        _ => write!(
+            ending,
             "status {status} with fault {fault} at {at:08x} after {steps} steps"
-        )?),
-    }
-}
-
-/// Bytes as words in hexadecimal.
-fn words_of(alloc: Global, bytes: &[u8]) -> Result<String> {
-    let mut text = String::new(alloc);
-    for (index, byte) in bytes.iter().enumerate() {
-        let gap = if index > 0 && index % 4 == 0 { " " } else { "" };
-        text.push_str(&format!(in alloc; "{gap}{byte:02X}")?)?;
-    }
-    Ok(text)
+        ),
+    }?;
+    Ok(ending)
 }

@@ -4,7 +4,8 @@
 //! isn't code, or is code that no such text gives, is written as data. The listing of code that has no data in it has
 //! to be the text that it was written as.
 use crate::notation::{data_of, put};
-use anyhow::{Result, anyhow, bail, ensure};
+use crate::wanted::compare_bytes;
+use anyhow::{Result, bail, ensure};
 use gx_asm::{assemble, list};
 use gx_words::Bytes;
 use std::alloc::Global;
@@ -30,8 +31,8 @@ pub struct StoryFile {
 impl StoryFile {
     /// A file of so many bytes that begins with a header, and is zero behind it.
     pub fn new(alloc: Global, size: usize, header: &str) -> Result<StoryFile> {
-        let mut bytes = vec![in alloc; 0; size]?;
-        put(&mut bytes, 0, data_of(alloc, header)?.as_slice())?;
+        let mut bytes = data_of(alloc, header)?;
+        bytes.resize(size, 0)?;
         Ok(StoryFile {
             bytes,
             next: CODE,
@@ -49,41 +50,35 @@ impl StoryFile {
         self.next
     }
 
-    /// Takes a line that puts something into the file.
-    pub fn take(&mut self, alloc: Global, key: &str, rest: &str) -> Result<()> {
-        match key {
-            "at" => self.put_line_at(alloc, rest),
-            "code" => self.put_code(alloc, line_of(alloc, rest)?.as_str()),
-            "data" => self.put_data(alloc, rest),
-            _ => Err(anyhow!("a line of no known kind: {key} {rest}")),
-        }
-    }
-
     /// Puts instructions behind the code.
     pub fn put_code(&mut self, alloc: Global, text: &str) -> Result<()> {
+        self.text.push_str(text)?;
         let code = code_of(alloc, text)?;
         self.next = put(&mut self.bytes, self.next, code.as_slice())?;
-        self.text.push_str(text)?;
         Ok(())
     }
 
     /// Puts data behind the code.
-    fn put_data(&mut self, alloc: Global, data: &str) -> Result<()> {
+    pub fn put_data(&mut self, alloc: Global, data: &str) -> Result<()> {
+        self.spelled = false;
         let data = data_of(alloc, data)?;
         self.next = put(&mut self.bytes, self.next, data.as_slice())?;
-        self.spelled = false;
         Ok(())
     }
 
     /// Puts an instruction or data at an address.
-    fn put_line_at(&mut self, alloc: Global, rest: &str) -> Result<()> {
+    pub fn put_at(&mut self, alloc: Global, rest: &str) -> Result<()> {
         let (at, what) = rest.split_once(' ').unwrap_or((rest, ""));
         let at = usize::from_str_radix(at, 16)?;
-        if let Some(instruction) = what.strip_prefix("code ") {
-            let text = line_of(alloc, instruction)?;
-            return self.put_bytes(at, code_of(alloc, text.as_str())?.as_slice());
+        match what.strip_prefix("code ") {
+            Some(instruction) => self.put_code_at(alloc, at, instruction),
+            None => self.put_bytes(at, data_of(alloc, what)?.as_slice()),
         }
-        self.put_bytes(at, data_of(alloc, what)?.as_slice())
+    }
+
+    fn put_code_at(&mut self, alloc: Global, at: usize, instruction: &str) -> Result<()> {
+        let text = format!(in alloc; "{instruction}\n")?;
+        self.put_bytes(at, code_of(alloc, text.as_str())?.as_slice())
     }
 
     /// Puts bytes at an address.
@@ -99,17 +94,8 @@ impl StoryFile {
         }
         let code = self.bytes.as_slice().get(CODE..self.next);
         let listed = listing_of(alloc, code.unwrap_or_default())?;
-        ensure!(
-            listed.as_slice() == self.text.as_bytes(),
-            "the listing of the code is another text"
-        );
-        Ok(())
+        compare_bytes("the listing", self.text.as_bytes(), Some(listed.as_slice()))
     }
-}
-
-/// An instruction as a line.
-fn line_of(alloc: Global, instruction: &str) -> Result<String> {
-    Ok(format!(in alloc; "{instruction}\n")?)
 }
 
 /// The code of instructions.

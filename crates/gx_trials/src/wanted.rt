@@ -1,32 +1,32 @@
-//! What a run is compared with: text, memory, the stack.
-use crate::notation::{facts, named_data};
+//! What is wanted against what is found: each difference is told here.
+use crate::notation::{facts, last};
 use anyhow::{Result, ensure};
-use std::alloc::Global;
 
-/// Compares the text that was shown.
-pub fn compare_text(shown: &[u8], wanted: &[u8]) -> Result<()> {
-    let shown_text = std::str::from_utf8(shown).unwrap_or("no UTF-8");
-    ensure!(shown == wanted, "the text is {shown_text}");
+/// Compares a text.
+pub fn compare(what: &str, wanted: &str, found: &str) -> Result<()> {
+    ensure!(found == wanted, "{what}: {found} and not {wanted}");
     Ok(())
 }
 
-/// Compares the stack with words of eight digits.
-pub fn compare_stack(stack: &str, wanted: &str) -> Result<()> {
-    ensure!(stack == wanted, "the stack is {stack}");
+/// Compares a number.
+pub fn compare_number(what: &str, wanted: u64, found: u64) -> Result<()> {
+    ensure!(found == wanted, "{what}: {found} and not {wanted}");
     Ok(())
 }
 
-/// Compares memory with all lines `memory ADDRESS DATA`.
-pub fn compare_memory(alloc: Global, memory: &[u8], lines: &str) -> Result<()> {
-    for line in lines.lines() {
-        if let ("memory", rest) = facts(line) {
-            let (at, data) = named_data(alloc, rest)?;
-            let from = usize::from_str_radix(at, 16)?;
-            let there = memory.get(from..from.saturating_add(data.len()));
-            ensure!(
-                there == Some(data.as_slice()),
-                "memory differs from {at} on"
-            );
+/// Compares bytes, which may be missing, and tells them as text.
+pub fn compare_bytes(what: &str, wanted: &[u8], found: Option<&[u8]>) -> Result<()> {
+    let there = std::str::from_utf8(found.unwrap_or_default()).unwrap_or("no UTF-8");
+    ensure!(found == Some(wanted), "{what}: there is {there}");
+    Ok(())
+}
+
+/// Compares each line of what is found with the last line of its kind that says what is wanted, if there is one.
+pub fn compare_lines(wanted: &str, found: &str) -> Result<()> {
+    for line in found.lines() {
+        let (kind, found) = facts(line);
+        if let Some(wanted) = last(wanted, kind) {
+            compare(kind, wanted, found)?;
         }
     }
     Ok(())

@@ -20,11 +20,10 @@ const HEAP: Part = Part {
 
 /// Chunks that are found by their letters and by their place.
 fn compare(form: &Form) -> Result<()> {
-    let stack = form.first(*b"Stks");
-    ensure!(stack == Some(STACK), "another chunk of the stack");
-    ensure!(form.first(*b"CMem").is_none(), "a chunk that isn't there");
-    ensure!(form.at(24) == Some(HEAP), "another chunk at 24");
-    ensure!(form.at(usize::MAX).is_none(), "a chunk past the end");
+    let there = (form.first(*b"Stks"), form.at(24));
+    ensure!(there == (Some(STACK), Some(HEAP)), "another chunk");
+    let none = form.first(*b"CMem").is_none() && form.at(usize::MAX).is_none();
+    ensure!(none, "a chunk that isn't there, or past the end");
     Ok(())
 }
 

@@ -1,5 +1,6 @@
 //! The line that says how a run ended, for each status.
-use anyhow::{Result, ensure};
+use crate::wanted::compare;
+use anyhow::Result;
 use gx_pool::PagePool;
 use gx_session::Ended;
 use std::alloc::Global;
@@ -41,12 +42,9 @@ fn ended<'p>(status: u8, fault: u8, at: u32, steps: u64) -> Ended<&'p PagePool> 
 
 /// The line of each.
 pub fn reports(alloc: Global) -> Result<()> {
-    for (status, fault, at, steps, wanted) in REPORTS {
-        let line = ended(status, fault, at, steps).line(alloc)?;
-        ensure!(
-            line.as_str() == wanted,
-            "reports: another line than {wanted}"
-        );
+    for (status, fault, at, steps, wanted) in REPORTS.iter() {
+        let ended = ended(*status, *fault, *at, *steps);
+        compare("reports", wanted, ended.line(alloc)?.as_str())?;
     }
     Ok(())
 }

@@ -1,4 +1,5 @@
 //! How a text is cut into rows: where each starts and ends, which the screen alone doesn't tell.
+use crate::wanted;
 use anyhow::{Result, ensure};
 use glk_screen::wrap;
 use std::alloc::Global;
@@ -12,19 +13,22 @@ fn characters(alloc: Global, text: &str) -> Result<Vec<u32>> {
     Ok(numbers)
 }
 
+/// The start and the end of each row of a text in a window of so many columns, with a blank before each number.
+fn ends_of(alloc: Global, characters: &[u32], width: u32) -> Result<String> {
+    ensure!(characters.len() < 0x100, "the text is too long");
+    let rows = wrap(alloc, characters, width.max(1))?;
+    let mut ends = String::new(alloc);
+    for end in rows.as_slice().iter() {
+        write!(ends, " {end}")?;
+    }
+    Ok(ends)
+}
+
 /// Compares the rows of a text in a window of so many columns, each by its start and its end.
 fn compare(alloc: Global, text: &str, width: u32, wanted: &str) -> Result<()> {
     let characters = characters(alloc, text)?;
-    ensure!(characters.len() < 0x100, "the text is too long");
-    let rows = wrap(alloc, characters.as_slice(), width.max(1))?;
-    let mut ends = String::new(alloc);
-    for end in rows.as_slice().iter() {
-        let gap = if ends.is_empty() { "" } else { " " };
-        ends.push_str(&format!(in alloc; "{gap}{end}")?)?;
-    }
-    let ends = ends.as_str();
-    ensure!(ends == wanted, "the rows of {text} are {ends}");
-    Ok(())
+    let ends = ends_of(alloc, characters.as_slice(), width);
+    wanted::compare(text, wanted, ends?.as_str().trim())
 }
 
 /// Words, and a last one that is longer than the window.

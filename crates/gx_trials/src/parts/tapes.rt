@@ -1,10 +1,13 @@
-//! A tape that goes back by every distance, and on again, in a run that draws, asks, searches and prints.
+//! A tape that goes back by every distance, and on again, in a run that draws, asks, searches and prints; and how many
+//! checkpoints a tape keeps, and which, by the pages that are out.
 //!
 //! Its checkpoints are few and lie near each other. What is asked is answered by 0 or by 1. A place of the run is
 //! known by the units that were used there, and by what its machine holds.
+use super::pages::expect_out;
 use crate::runs::{Left, left_in};
-use crate::small::HEAD;
+use crate::stories::SMALL_HEAD;
 use crate::story_files::StoryFile;
+use crate::wanted::compare_number;
 use anyhow::{Context, Result, bail, ensure};
 use gx_machine::{Asking, Engine, Machine};
 use gx_pool::PagePool;
@@ -33,8 +36,24 @@ jumpabs #27
 /// How many calls make the run.
 const CALLS: u32 = 32;
 
-/// The most units that a call may use.
+/// The most units that one of these calls may use.
 const PART: u64 = 7;
+
+/// The most units of any call.
+const MOST_PART: u64 = 1_000;
+
+/// A loop whose turns take three units: each changes RAM's first page, and writes into one more.
+const LOOP: &str = "\
+add @0100 #0100 @0100
+astoreb @0100 z #01
+jumpabs #27
+";
+
+/// The units of a turn.
+const TURN: u64 = 3;
+
+/// How many turns are made.
+const TURNS: u32 = 9;
 
 /// A place of the run.
 #[derive(Drop)]
@@ -43,13 +62,27 @@ struct Place {
     left: Left,
 }
 
-/// The story at its beginning, on a tape that keeps two checkpoints.
-fn tape<'p>(alloc: Global, pool: &'p PagePool) -> Result<Tape<&'p PagePool>> {
-    let mut file = StoryFile::new(alloc, 0x200, HEAD)?;
-    file.put_code(alloc, CODE)?;
+/// A story's file of this code, with twelve pages of memory, of which RAM's first begins with its own address.
+fn file_of(alloc: Global, code: &str) -> Result<StoryFile> {
+    let mut file = StoryFile::new(alloc, 0x200, SMALL_HEAD)?;
+    file.put_bytes(0x10, &[0, 0, 0x0C, 0])?;
+    file.put_bytes(0x100, &[0, 0, 1, 0])?;
+    file.put_code(alloc, code)?;
+    Ok(file)
+}
+
+/// A story of this code at its beginning, on a tape that keeps so many checkpoints, this far apart.
+fn tape<'p>(
+    alloc: Global,
+    pool: &'p PagePool,
+    code: &str,
+    every: u64,
+    most: usize,
+) -> Result<Tape<&'p PagePool>> {
+    let file = file_of(alloc, code)?;
     let story = Story::read(alloc, file.bytes())?;
     let machine = Machine::start(alloc, pool, story, 4)?;
-    Ok(Tape::new(alloc, machine, 3, 2)?)
+    Ok(Tape::new(alloc, machine, every.max(1), most.max(1))?)
 }
 
 fn place_of(alloc: Global, tape: &Tape<&PagePool>) -> Result<Place> {
@@ -62,36 +95,26 @@ fn place_of(alloc: Global, tape: &Tape<&PagePool>) -> Result<Place> {
 
 /// Compares a place with what was seen there before.
 fn compare(place: &Place, seen: &Place) -> Result<()> {
-    let (units, wanted) = (place.units, seen.units);
-    ensure!(
-        units == wanted,
-        "tapes: it comes to {units} units and not {wanted}"
-    );
-    let (left, other) = (&place.left, &seen.left);
-    ensure!(
-        left.place.as_str() == other.place.as_str(),
-        "tapes: it stands elsewhere after {units} units"
-    );
-    ensure!(
-        left.stack.as_str() == other.stack.as_str(),
-        "tapes: another stack after {units} units"
-    );
-    ensure!(
-        left.memory.as_slice() == other.memory.as_slice(),
-        "tapes: another memory after {units} units"
-    );
-    Ok(())
+    compare_number("tapes: units", seen.units, place.units)?;
+    seen.left.compare(&place.left)
 }
 
-/// Makes steps with a word, as long as they ask nothing.
-fn make_steps(tape: &mut Tape<&PagePool>, word: u32) -> Result<()> {
+/// Compares the place where it stands.
+fn compare_here(alloc: Global, tape: &Tape<&PagePool>, seen: &Place) -> Result<()> {
+    let place = place_of(alloc, tape)?;
+    compare(&place, seen)
+}
+
+/// Makes steps with a word within so many units, as long as they ask nothing.
+fn make_steps(tape: &mut Tape<&PagePool>, word: u32, part: u64) -> Result<()> {
     let None = tape.machine().asking() else {
         bail!("tapes: it waits");
     };
     if tape.units() > 10_000 {
         bail!("tapes: too many units");
     }
-    let (mut budget, mut left) = (PART, PART);
+    let part = part.min(MOST_PART);
+    let (mut budget, mut left) = (part, part);
     tape.advance(word, &mut budget, &mut left)?;
     Ok(())
 }
@@ -117,7 +140,7 @@ fn answer(alloc: Global, tape: &mut Tape<&PagePool>, value: u32) -> Result<()> {
 fn play(alloc: Global, tape: &mut Tape<&PagePool>) -> Result<Vec<Place>> {
     let mut seen = Vec::new(alloc);
     for call in 0..CALLS {
-        make_steps(tape, call.wrapping_mul(0x9E37_79B9))?;
+        make_steps(tape, call.wrapping_mul(0x9E37_79B9), PART)?;
         answer(alloc, tape, call / 2 % 2)?;
         seen.push(place_of(alloc, tape)?)?;
     }
@@ -176,17 +199,22 @@ fn compare_back(
 ) -> Result<()> {
     let end = tape.end();
     let units = tape.back(back)?;
+    compare_number("tapes: an answer", tape.units(), units)?;
     let first = index_of(places, end.saturating_sub(back));
-    ensure!(units == tape.units(), "tapes: it answers {units}");
     for place in places.iter().skip(first) {
-        compare(&place_of(alloc, tape)?, place)?;
-        let more = again(tape)?;
-        ensure!(
-            more == (place.units < end),
-            "tapes: the record ends elsewhere"
-        );
+        compare_next(alloc, tape, place, end)?;
     }
-    ensure!(tape.end() == end, "tapes: another end");
+    compare_number("tapes: the end", end, tape.end())
+}
+
+/// Compares where it stands, and goes on from there, unless it is the end.
+fn compare_next(alloc: Global, tape: &mut Tape<&PagePool>, place: &Place, end: u64) -> Result<()> {
+    compare_here(alloc, tape, place)?;
+    let more = again(tape)?;
+    ensure!(
+        more == (place.units < end),
+        "tapes: the record ends elsewhere"
+    );
     Ok(())
 }
 
@@ -194,14 +222,13 @@ fn compare_back(
 fn compare_cut(alloc: Global, tape: &mut Tape<&PagePool>) -> Result<()> {
     let end = tape.end();
     let middle = tape.back(end / 2)?;
-    make_steps(tape, 1)?;
+    make_steps(tape, 1, PART)?;
     answer(alloc, tape, 1)?;
-    let (units, last) = (tape.units(), tape.end());
+    let (units, last, more) = (tape.units(), tape.end(), again(tape)?);
     ensure!(
-        middle < units && units == last && last < end,
+        middle < units && units == last && last < end && !more,
         "tapes: {units} units of {last} after a new step"
     );
-    ensure!(!again(tape)?, "tapes: a step follows that is cut off");
     Ok(())
 }
 
@@ -209,23 +236,33 @@ fn compare_cut(alloc: Global, tape: &mut Tape<&PagePool>) -> Result<()> {
 fn compare_dropped(alloc: Global, tape: &mut Tape<&PagePool>) -> Result<()> {
     let end = tape.end();
     tape.back(end)?;
-    make_steps(tape, 1)?;
-    make_steps(tape, 2)?;
-    ensure!(tape.machine().asking().is_some(), "tapes: it asks nothing");
+    make_steps(tape, 1, PART)?;
+    make_steps(tape, 2, PART)?;
     let seen = place_of(alloc, tape)?;
+    compare_asking(alloc, tape, &seen)
+}
+
+fn compare_asking(alloc: Global, tape: &mut Tape<&PagePool>, seen: &Place) -> Result<()> {
+    let before = tape.machine().asking().is_some();
     tape.back(0)?;
-    ensure!(tape.machine().asking().is_none(), "tapes: it still asks");
-    compare(&place_of(alloc, tape)?, &seen)
+    let after = tape.machine().asking().is_some();
+    ensure!(before && !after, "tapes: it asks nothing, or still asks");
+    compare_here(alloc, tape, seen)
 }
 
 fn compare_all(alloc: Global, tape: &mut Tape<&PagePool>) -> Result<()> {
     let seen = play(alloc, tape)?;
     let places = go_through(alloc, tape)?;
     compare_run(seen.as_slice(), places.as_slice())?;
+    compare_ways(alloc, tape, places.as_slice())
+}
+
+/// Compares each way back and on, and what other steps leave.
+fn compare_ways(alloc: Global, tape: &mut Tape<&PagePool>, places: &[Place]) -> Result<()> {
     let end = tape.end();
     ensure!(end > 20, "tapes: the run has {end} units");
     for back in 0..end.saturating_add(2) {
-        compare_back(alloc, tape, places.as_slice(), back)?;
+        compare_back(alloc, tape, places, back)?;
     }
     compare_cut(alloc, tape)?;
     compare_dropped(alloc, tape)
@@ -234,6 +271,70 @@ fn compare_all(alloc: Global, tape: &mut Tape<&PagePool>) -> Result<()> {
 /// A run on a tape, each way back in it, and each way on.
 pub fn goes_back_and_on(alloc: Global) -> Result<()> {
     let pool = PagePool::new(alloc, 1000);
-    let mut tape = tape(alloc, &pool)?;
+    let mut tape = tape(alloc, &pool, CODE, 3, 2)?;
     compare_all(alloc, &mut tape)
+}
+
+/// A tape over a pool, nine turns after its beginning. The pages that are out are three of the beginning (the header's,
+/// RAM's first and one of zeros), nine that were written, and RAM's first as it is now and at each checkpoint.
+fn turned<'p>(
+    alloc: Global,
+    pool: &'p PagePool,
+    every: u64,
+    most: usize,
+) -> Result<Tape<&'p PagePool>> {
+    let mut tape = tape(alloc, pool, LOOP, every, most)?;
+    expect_out(pool, 3)?;
+    for _turn in 0..TURNS {
+        make_steps(&mut tape, 0, TURN)?;
+    }
+    Ok(tape)
+}
+
+/// Goes back, and compares how many pages are out.
+fn go_back(pool: &PagePool, tape: &mut Tape<&PagePool>, units: u64, out: usize) -> Result<()> {
+    tape.back(units)?;
+    expect_out(pool, out)
+}
+
+/// Goes on, and compares how many pages are out.
+fn go_on(pool: &PagePool, tape: &mut Tape<&PagePool>, units: u64, out: usize) -> Result<()> {
+    for _unit in 0..units {
+        again(tape)?;
+    }
+    expect_out(pool, out)
+}
+
+/// A forked machine shares all of its pages.
+fn compare_fork(alloc: Global, pool: &PagePool, tape: &Tape<&PagePool>) -> Result<()> {
+    expect_out(pool, 13 + 4)?;
+    let _fork = tape.machine().fork(alloc)?; // it is there until the end of the call
+    expect_out(pool, 13 + 4)
+}
+
+/// A checkpoint is taken where one is due, and not at each call: of eight that may be kept there are four.
+pub fn takes_checkpoints_where_due(alloc: Global) -> Result<()> {
+    let pool = PagePool::new(alloc, 1000);
+    let tape = turned(alloc, &pool, 2 * TURN, 8)?;
+    compare_fork(alloc, &pool, &tape)?;
+    drop(tape);
+    expect_out(&pool, 0)
+}
+
+/// Of eight checkpoints, one at each turn, two are kept: the newest, after eight turns, and one after six. So a way
+/// back to that makes nothing again, and one over its beginning makes a turn; and what was cut off is let go of.
+pub fn keeps_few_checkpoints(alloc: Global) -> Result<()> {
+    let pool = PagePool::new(alloc, 1000);
+    let mut tape = turned(alloc, &pool, TURN - 1, 2)?;
+    compare_few(&pool, &mut tape)
+}
+
+fn compare_few(pool: &PagePool, tape: &mut Tape<&PagePool>) -> Result<()> {
+    expect_out(pool, 13 + 2)?;
+    go_back(pool, tape, 3 * TURN, 11 + 2)?; // it is the checkpoint's, and the ninth page isn't there any more
+    go_on(pool, tape, 3 * TURN, 11 + 2 + 4)?; // three pages are written again, and RAM's first
+    go_back(pool, tape, TURN, 11 + 2)?; // to the checkpoint after eight turns
+    go_back(pool, tape, 4 * TURN, 11 + 2 + 5)?; // from the beginning: four are written again, and RAM's first
+    make_steps(tape, 0, TURN)?; // no checkpoint is left, nor what they alone had
+    expect_out(pool, 3 + 6)
 }
